@@ -55,7 +55,8 @@ enum bigrosk_ini_status {
     BIGROSK_INI_UNPLAIN_KEY = 8,   /* the same of its key */
     BIGROSK_INI_NO_PLACE = 9,      /* a new line can be put into the text nowhere */
     BIGROSK_INI_UNPLAIN_NAME = 10, /* the same of the name of a section, which an edit of a text would open or rename */
-    BIGROSK_INI_THERE = 11         /* a section that would be new is there */
+    BIGROSK_INI_THERE = 11,        /* a section that would be new is there */
+    BIGROSK_INI_UNKNOWN_OPTION = 12 /* a number of a struct bigrosk_ini_reading stands for no option */
 };
 
 /* What only the functions of this header answer. */
@@ -81,6 +82,7 @@ static inline const char *bigrosk_ini_status_text(uint32_t status)
     case BIGROSK_INI_NO_PLACE: return "the text has no place for a new line";
     case BIGROSK_INI_UNPLAIN_NAME: return "the section's name, written, is not read back";
     case BIGROSK_INI_THERE: return "the section is there";
+    case BIGROSK_INI_UNKNOWN_OPTION: return "a number stands for no option";
     case BIGROSK_INI_MISTYPED: return "the value is none of this type";
     case BIGROSK_INI_NO_FILE: return "the file can't be read or written";
     case BIGROSK_INI_NO_DIALECT: return "no dialect has this name";
@@ -96,7 +98,8 @@ enum bigrosk_ini_kind {
     BIGROSK_INI_INLINE_COMMENT = 4,    /* ; or # where an item may begin, but not in column one */
     BIGROSK_INI_MISSING_KEY = 5,       /* a separator follows an empty key */
     BIGROSK_INI_CR_ALONE = 6,          /* in a multiline value, CR without LF in the place of an empty line */
-    BIGROSK_INI_HEADER_END = 7         /* with brackets in names, a header's line does not end in ] */
+    BIGROSK_INI_HEADER_END = 7,        /* with brackets in names, a header's line does not end in ] */
+    BIGROSK_INI_NO_SEPARATOR = 8       /* where lone lines are refused, no separator follows the key in its line */
 };
 
 /* A document, or none. */
@@ -130,17 +133,25 @@ struct bigrosk_ini_read_option {
 };
 #define BIGROSK_INI_READ_DEFAULT { true, true, false, false, false }
 
-/* The same with the option that came later. It begins as BIGROSK_INI_READING_DEFAULT; the calls whose names end in _by take it. */
+/* What becomes of a line in which no separator follows the key. */
+enum bigrosk_ini_lone_lines {
+    BIGROSK_INI_LONE_LINES_RUN_ON = 0, /* the key runs on over the line end, up to a separator */
+    BIGROSK_INI_LONE_LINES_REFUSED = 1 /* the text is refused: NO_SEPARATOR */
+};
+
+/* The same with the options that came later. It begins as BIGROSK_INI_READING_DEFAULT; the calls whose names end in _by take it. */
 struct bigrosk_ini_reading {
-    uint8_t size;          /* of this struct, as the macro sets it: an option that it doesn't reach is off */
+    uint8_t size;          /* of this struct, as the macro sets it: an option that it doesn't reach is off, or 0 */
     bool quotes;
     bool escapes;
     bool multiline;
     bool keep_indentation;
     bool brackets;
     bool raw_backslash;    /* where escapes are off, a backslash is a character like any other, before a line feed too */
+    uint8_t lone_lines;    /* enum bigrosk_ini_lone_lines; any other number is refused */
 };
-#define BIGROSK_INI_READING_DEFAULT { sizeof(struct bigrosk_ini_reading), true, true, false, false, false, false }
+#define BIGROSK_INI_READING_DEFAULT \
+    { sizeof(struct bigrosk_ini_reading), true, true, false, false, false, false, BIGROSK_INI_LONE_LINES_RUN_ON }
 
 /* Which characters of names, keys and values are escaped. */
 enum bigrosk_ini_policy {
@@ -197,7 +208,7 @@ uint32_t bigrosk_ini_load(const uint8_t *text, size_t text_count, bool drop_mark
                           const struct bigrosk_ini_read_option *option, struct bigrosk_ini_document *document,
                           struct bigrosk_ini_fault *fault);
 
-/* The same by a struct bigrosk_ini_reading. */
+/* The same by a struct bigrosk_ini_reading: also UNKNOWN_OPTION, after NOT_UTF8. */
 uint32_t bigrosk_ini_load_by(const uint8_t *text, size_t text_count, bool drop_mark,
                              const struct bigrosk_ini_reading *reading, struct bigrosk_ini_document *document,
                              struct bigrosk_ini_fault *fault);
@@ -274,18 +285,19 @@ uint32_t bigrosk_ini_write(struct bigrosk_ini_document *document, const struct b
                            uint8_t *text, size_t room, size_t *count);
 
 /* Whether the document, written by one option, loads by the other as it is: to be asked before it is saved. Of no document
- * it is not so. */
+ * it is not so, nor by an unknown option. */
 bool bigrosk_ini_is_plain(struct bigrosk_ini_document *document, const struct bigrosk_ini_write_option *write,
                           const struct bigrosk_ini_read_option *read);
 bool bigrosk_ini_is_plain_by(struct bigrosk_ini_document *document, const struct bigrosk_ini_write_option *write,
                              const struct bigrosk_ini_reading *reading);
 
 /* Fills the options in by the name of a dialect: how its programs read their files, and how a line is written that they read
- * back. The names: crate (the default options), aws, desktop, editorconfig, fail2ban, freetds, git, hg, kde, mysql, npm, odbc,
- * openssl, openttd, php, pulseaudio, python, qt, samba, sssd, supervisor, systemd, uwsgi, windows, xrdp. The calls look up as
- * ever: the first section and the first pair count, and case tells names apart, whatever the dialect's programs do.
- * OK; ABSENT where no dialect has the name; NOT_UTF8. With anything but OK the options are as they were. The first call knows of
- * no raw backslashes; the second one leaves the size as it is. */
+ * back. The names: crate (the default options), strict (these, and lone lines are refused), aws, desktop, editorconfig,
+ * fail2ban, freetds, git, hg, kde, mysql, npm, odbc, openssl, openttd, php, pulseaudio, python, qt, samba, sssd, supervisor,
+ * systemd, uwsgi, windows, xrdp. The calls look up as ever: the first section and the first pair count, and case tells names
+ * apart, whatever the dialect's programs do. OK; ABSENT where no dialect has the name; NOT_UTF8. With anything but OK the
+ * options are as they were. The first call knows of no option that came later; the second one leaves the size as it is, and
+ * what that doesn't reach. */
 uint32_t bigrosk_ini_dialect(const uint8_t *name, size_t name_count, struct bigrosk_ini_read_option *read,
                              struct bigrosk_ini_write_option *write);
 uint32_t bigrosk_ini_dialect_by(const uint8_t *name, size_t name_count, struct bigrosk_ini_reading *reading,
@@ -371,7 +383,7 @@ uint32_t bigrosk_ini_edit_rename_section(const uint8_t *text, size_t text_count,
 uint32_t bigrosk_ini_text_open(const uint8_t *bytes, size_t bytes_count, const struct bigrosk_ini_read_option *option,
                                struct bigrosk_ini_text *text, struct bigrosk_ini_fault *fault);
 
-/* The same by a struct bigrosk_ini_reading. */
+/* The same by a struct bigrosk_ini_reading: also UNKNOWN_OPTION, after NOT_UTF8. */
 uint32_t bigrosk_ini_text_open_by(const uint8_t *bytes, size_t bytes_count, const struct bigrosk_ini_reading *reading,
                                   struct bigrosk_ini_text *text, struct bigrosk_ini_fault *fault);
 

@@ -409,6 +409,31 @@ note: it has a backslash: use --policy Nothing" --noescape set settings.ini path
     edit 'merge of a path' "path = F:\\\\new \nother='D:\\\\new'\n" $raw merge settings.ini ../paths.ini
 }
 
+# lines in which no separator follows the key, where they are refused
+lone_lines() {
+    fresh
+    alone='this key has no = or : after it in its line'
+    printf 'k = 1\n\n[a]\nj : 2\n' >settings.ini
+    edit 'set where lines without separator are refused' 'k = 3\n\n[a]\nj : 2\n' --lone-lines refused set settings.ini k 3
+    edit 'a new key where they are refused' 'k = 3\nnew = 4\n\n[a]\nj : 2\n' --lone-lines refused set settings.ini new 4
+    printf 'k = 1\nabc\nj = 2\n' >settings.ini
+    refused 'set over a line without separator' 3 "settings.ini:2:1: $alone
+abc
+^" --lone-lines refused set settings.ini k 3
+    refused 'a key with a line end, where they are refused' 3 "settings.ini:2:1: $alone
+abc
+^" --lone-lines refused delete settings.ini 'abc
+j'
+    edit 'the same where it runs on' 'k = 3\nabc\nj = 2\n' --lone-lines refused --lone-lines runs-on set settings.ini k 3
+    edit 'its key goes' 'k = 3\n' delete settings.ini 'abc
+j'
+    printf 'k = 1\n  abc' >settings.ini
+    refused 'set over an indented key that the end cuts short' 3 "settings.ini:2:3: this key has no = or : after it
+  abc
+  ^
+note: the text ends at 2:6" --lone-lines refused set settings.ini k 3
+}
+
 # a key that begins with a byte order mark, at the front of a file that has none, and of one that has one
 marks() {
     fresh
@@ -1310,6 +1335,7 @@ adding
 making
 renaming
 paths
+lone_lines
 marks
 encodings
 further_encodings

@@ -34,7 +34,7 @@ offered() {
 mkdir "$room/files"
 : >"$room/files/one.ini"
 : >"$room/files/one two"
-options='--brackets --crlf --indent --multiline --noescape --noquote --policy --raw-backslash '
+options='--brackets --crlf --indent --lone-lines --multiline --noescape --noquote --policy --raw-backslash '
 if has bash completions; then
     offered 'del fmt get list set ' ini_tool ''
     offered 'get ' ini_tool g
@@ -42,6 +42,8 @@ if has bash completions; then
     offered "$options" ini_tool -
     offered '--noescape --noquote ' ini_tool --crlf --no
     offered 'Nothing ' ini_tool --policy N
+    offered 'refused ' ini_tool --lone-lines re
+    offered 'refused runs-on ' ini_file --crlf --lone-lines ''
     offered 'Reserved ReservedUnicode ReservedUnicodeExtended ' ini_file --policy Res
     offered ' ' ini_tool get ''
     offered 'one two one.ini ' ini_file layers ''
@@ -60,7 +62,7 @@ if has bash completions; then
     offered '--dry-run ' ini_file delete --d
     offered '-- --allow --deny --dry-run --fix --force --format --in-place --null --suggest --verbose --wait ' ini_file check --
     offered 'github json sarif ' ini_file check --format ''
-    offered 'samba sssd supervisor systemd ' ini_file --like s
+    offered 'samba sssd strict supervisor systemd ' ini_file --like s
     offered 'utf-16be utf-16le utf-8 ' ini_file list --encoding u
     offered '-- --all --default --force --format --in-place --last --null --output --section --type --verbose --wait ' ini_file get --
     offered '--null ' ini_file --crlf list --n
@@ -131,6 +133,9 @@ ini_file merge x.ini |x.ini
 ini_file get x.ini --output |x.ini
 ini_file set x.ini --wait |
 ini_file check --policy |Basics|BasicsUnicode|BasicsUnicodeExtended|Everything|Nothing|Reserved|ReservedUnicode|ReservedUnicodeExtended
+ini_file get --lone-lines |refused|runs-on
+ini_tool --lone-lines |refused|runs-on
+ini_tool --lone-lines refused |del|fmt|get|list|set
 ini_tool |del|fmt|get|list|set
 ini_tool get |
 ini_file layers x.ini |x.ini

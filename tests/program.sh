@@ -12,7 +12,7 @@ file=$(program_of ini_file "${2:-}") || exit 1
 mkdir "$room/bin"
 ln -s "$program" "$room/bin/ini_tool"
 ln -s "$file" "$room/bin/ini_file"
-options='[--noescape] [--noquote] [--multiline] [--indent] [--brackets] [--raw-backslash] [--crlf] [--policy NAME]'
+options='[--noescape] [--noquote] [--multiline] [--indent] [--brackets] [--raw-backslash] [--lone-lines NAME] [--crlf] [--policy NAME]'
 usage="usage: ini_tool $options fmt|list|get KEY [SECTION]|set KEY VALUE [SECTION]|del KEY [SECTION]"
 
 # told NAME STATUS WANTED ERROR: the last run's status, and what it wrote on standard error
@@ -90,6 +90,13 @@ fmt|k="a"|0|k=a\n|
 --noescape --raw-backslash list|p=C:\\x\\\nk=v|0|\tp\tC:\\\\x\\\\\n\tk\tv\n|
 --raw-backslash --noescape list|[a\\]\nb\\=c|0|[a\\\\]\tb\\\\\tc\n|
 --raw-backslash list|p=a\\tb\\\nc|0|\tp\ta\\tbc\n|
+--lone-lines refused fmt|; c\nk=v\n\n[a]\n  x : y\n|0|k=v\n\n[a]\nx=y\n|
+--lone-lines refused list|a\\\nb=c\n|0|\tab\tc\n|
+--lone-lines refused list|  \n  |0||
+--lone-lines runs-on list|abc\nk=v\n|0|\tabc\\nk\tv\n|
+--lone-lines refused --lone-lines runs-on list|abc\nk=v\n|0|\tabc\\nk\tv\n|
+--lone-lines runs-on fmt|k=v\n  abc|0|k=v\n|
+set --lone-lines refused||0|--lone-lines=refused\n|
 --crlf fmt|k=1\n[a]\nx=y|0|k=1\r\n\r\n[a]\r\nx=y\r\n|
 --policy Reserved fmt|k=a:b|0|k=a\\:b\n|
 --policy Reserved --policy Nothing fmt|k=a:b|0|k=a:b\n|
@@ -220,6 +227,14 @@ del k s x|k=v\n|2||USAGE
 --crlf --policy Nothing|k=v\n|2||USAGE
 --brackets-in fmt|k=v\n|2||USAGE
 --raw-backslashes fmt|k=v\n|2||USAGE
+--lone-lines|k=v\n|2||USAGE
+--lone-lines fmt|k=v\n|2||USAGE
+--lone-lines refuse fmt|k=v\n|2||USAGE
+--lone-lines Refused fmt|k=v\n|2||USAGE
+--lone-lines '' fmt|k=v\n|2||USAGE
+--lone-lines --policy Basics fmt|k=v\n|2||USAGE
+--lone-lines=refused fmt|k=v\n|2||USAGE
+'--lone-lines refused' fmt|k=v\n|2||USAGE
 -- fmt|k=v\n|2||USAGE
 --CRLF fmt|k=v\n|2||USAGE
 --policy Basics frob|k=v\n|2||USAGE
@@ -242,6 +257,13 @@ del k s ''|k=v|2||USAGE
 --policy '' fmt|k=v|2||USAGE
 # refused texts
 --brackets fmt|[a]x\n|3||ini_tool: 2:1 section must be ended with ']'
+--lone-lines refused fmt|abc\nk=v\n|3||ini_tool: 2:1 no separator follows the key in its line
+--lone-lines refused list|[a] b\n|3||ini_tool: 2:1 no separator follows the key in its line
+--lone-lines refused get k|k=v\n  ; c\nk=v\n|3||ini_tool: 3:1 no separator follows the key in its line
+--lone-lines refused set k v|k=1\nabc\rj=2\n|3||ini_tool: 2:5 no separator follows the key in its line
+--lone-lines runs-on --lone-lines refused del k|k\n=v\n|3||ini_tool: 2:1 no separator follows the key in its line
+--lone-lines refused list|k=v\n  abc|3||ini_tool: 2:6 expecting "[Some('='), Some(':')]" but found EOF.
+--lone-lines refused list| =v\n|3||ini_tool: 1:3 missing key
 fmt|k|3||ini_tool: 1:2 expecting "[Some('='), Some(':')]" but found EOF.
 list|[a]\n=v|3||ini_tool: 2:2 missing key
 get k|k=1\n[a] ; c|3||ini_tool: 2:6 doesn't support inline comment

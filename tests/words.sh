@@ -11,7 +11,7 @@
 program=$(program_of ini_file "${1:-}") || exit 1
 source='; a server\nname=one\n[server]\nport=8080\n[client]\nid=7\n'
 dialects='crate git systemd desktop python php mysql samba windows kde supervisor fail2ban aws editorconfig npm qt hg'
-dialects="$dialects pulseaudio odbc freetds sssd openssl uwsgi xrdp openttd"
+dialects="$dialects pulseaudio odbc freetds sssd openssl uwsgi xrdp openttd strict"
 policies='Nothing Basics BasicsUnicode BasicsUnicodeExtended Reserved ReservedUnicode ReservedUnicodeExtended Everything'
 traps='unclosed-bracket, unclosed-quote, joined-line, runs-on, comment-runs-on, dropped-line, lone-cr, header-in-value'
 traps="$traps, pair-in-value, repeated-key, repeated-section, after-header, empty-name, section-case, key-case"
@@ -47,6 +47,11 @@ list settings.ini more|more is one word too many: list takes FILE
 list --policy Basic settings.ini|Basic is no policy; --policy takes one of $policies
 list settings.ini --policy=basics|basics is no policy; --policy takes one of $policies
 list settings.ini --policy|--policy takes NAME
+list settings.ini --lone-lines refuse|refuse is no word on lone lines; --lone-lines takes refused or runs-on
+list settings.ini --lone-lines=--policy --policy Basics|--policy is no word on lone lines; --lone-lines takes refused or runs-on
+--lone-lines= list settings.ini| is no word on lone lines; --lone-lines takes refused or runs-on
+list settings.ini --lone-lines refused --policy --lone-lines|--lone-lines is no policy; --policy takes one of $policies
+list settings.ini --lone-lines|--lone-lines takes NAME
 list settings.ini --like Git|Git is no dialect; --like takes auto or one of $dialects
 --like= list settings.ini --policy x| is no dialect; --like takes auto or one of $dialects
 check settings.ini --like fish|fish is no dialect; --like takes auto or one of $dialects
@@ -186,6 +191,9 @@ set settings.ini name two -n|\055-- settings.ini\n+++ settings.ini\n@@ -2,1 +2,1
 -n delete settings.ini id -s client|\055-- settings.ini\n+++ settings.ini\n@@ -6,1 +5,0 @@\n-id=7\n
 -n delete-section settings.ini -s client|\055-- settings.ini\n+++ settings.ini\n@@ -5,2 +4,0 @@\n-[client]\n-id=7\n
 -n rename-key settings.ini id key -s client|\055-- settings.ini\n+++ settings.ini\n@@ -6,1 +6,1 @@\n-id=7\n+key=7\n
+get settings.ini name --lone-lines refused|one\n
+get settings.ini --lone-lines=refused name|one\n
+--lone-lines=refused get settings.ini name --lone-lines runs-on|one\n
 set settings.ini k v --output=- --separator=:|; a server\nname=one\nk=v\n[server]\nport=8080\n[client]\nid=7\n
 set none.ini k v --output=- --separator=:|k:v\n
 --like git get settings.ini NAME|one\n
@@ -243,6 +251,8 @@ sections --all --null rules.ini|0|A\000b\000a\000B\000a\000
 --like windows keys rules.ini a|0|k\n
 --like windows sections rules.ini|0|A\nb\n
 --like openttd get rules.ini k a|0|4\n
+--like strict get rules.ini k a|0|4\n
+--like strict get rules.ini k a --last --lone-lines runs-on|0|4\n
 --like openttd keys rules.ini A|0|k\nK\n
 --like openttd set rules.ini k v A -n|0|--- rules.ini\n+++ rules.ini\n@@ -2,1 +2,1 @@\n-k=1\n+k=v\n
 --like windows set rules.ini K v a -n|0|--- rules.ini\n+++ rules.ini\n@@ -2,1 +2,1 @@\n-k=1\n+k=v\n
@@ -462,11 +472,16 @@ suggests() {
     for name in systemd python mysql samba windows supervisor fail2ban aws editorconfig npm hg sssd; do
         want="${want}path.ini: $name: 0\\n"
     done
-    for name in crate git desktop php kde qt pulseaudio odbc freetds openssl uwsgi xrdp openttd; do
+    for name in crate git desktop php kde qt pulseaudio odbc freetds openssl uwsgi xrdp openttd strict; do
         want="${want}path.ini: $name: 1\\n"
     done
     ends 'the dialects of a path' 0 "$want" '' check --suggest path.ini
     ends 'a text of no dialect' 1 '' '' check --suggest none.ini
+    printf 'one\ntwo = 2\n' >runs.ini
+    "$program" check --suggest runs.ini | cut -d ' ' -f 2 | tr -d : | sort >"$room/have"
+    # shellcheck disable=SC2086
+    printf '%s\n' $dialects | grep -v -x strict | sort >"$room/want"
+    count 'each dialect but strict reads a line without separator'
 }
 
 # Help, of the program and of each command: status 0, on standard output.
@@ -528,6 +543,14 @@ refused() {
 ~k = \\x12\\z4\n~1:10: a backslash stands among the four digits after \x~k = \x12\z4~         ^~
 ~k = \\xd800\n~1:10: no character has these four digits after \x~k = \xd800~         ^~
 --brackets~[a]x\nk=v\n~1:5: the line of a section's name doesn't end in ]~[a]x~    ^~
+--lone-lines refused~a = 1\nabc\nk = v\n~2:1: this key has no = or : after it in its line~abc~^~
+--lone-lines=refused~[a] b c\r\nk = v\n~1:5: this key has no = or : after it in its line~[a] b c~    ^~
+--lone-lines refused~k = v\n  ; c\n[b\n~2:3: this key has no = or : after it in its line~  ; c~  ^~
+--lone-lines refused~a\\\nb\nk = v\n~1:1: this key has no = or : after it in its line~a\~^~
+--lone-lines refused~k = v\n  abc~2:3: this key has no = or : after it~  abc~  ^~note: the text ends at 2:6
+--like strict~a = 1\nabc\nk = v\n~2:1: this key has no = or : after it in its line~abc~^~
+--lone-lines refused --like strict~abc\n~1:1: this key has no = or : after it in its line~abc~^~
+--lone-lines refused~k\n\n= v\n~1:1: this key has no = or : after it in its line~k~^~
 END
     # among the lines of a value: CR without LF
     fresh

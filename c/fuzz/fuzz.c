@@ -5,8 +5,9 @@
  * An input is two bytes of options, the name of a section, a key and a value, each with a | after it, and
  * the text. Bits of the first byte: 1 quotes, 2 escapes, 4 multiline, 8 kept indentation, 16 brackets, 32 a
  * mark is dropped, 64 the general section in place of the one of the name, 128 raw backslashes, where all of
- * the options are read by. Of the second: 1 to 8 the policy, 16 and 32 the separator, 128 CR LF. So `#A` has
- * the default options. */
+ * the options are read by. Of the second: 1 to 8 the policy, 16 and 32 the separator, 64 that a key runs on
+ * over its line's end, in place of being refused there, where all are read by, 128 CR LF. So `#A` has the
+ * default options. */
 #include "promises.h"
 
 int LLVMFuzzerTestOneInput(const uint8_t *data, size_t size);
@@ -104,6 +105,7 @@ static struct input input_of(const uint8_t *data, size_t size)
     input.reading.keep_indentation = input.read.keep_indentation;
     input.reading.brackets = input.read.brackets;
     input.reading.raw_backslash = first >> 7;
+    input.reading.lone_lines = (second & 64) ? BIGROSK_INI_LONE_LINES_RUN_ON : BIGROSK_INI_LONE_LINES_REFUSED;
     input.section = next_part(&rest);
     input.key = next_part(&rest);
     input.value = next_part(&rest);
@@ -155,15 +157,16 @@ static void write_and_load(document *it, const struct listing *listing, const st
     free(text);
 }
 
-/* No value has a line end in it. */
-static void are_of_one_line(const struct listing *listing)
+/* No value has a line end in it, and no key where lines without separator are refused. */
+static void are_of_one_line(const struct listing *listing, bool is_strict)
 {
     struct bigrosk_ini_walk walk = bigrosk_ini_walk_over(listing->bytes, listing->counts, listing->sizes);
     while (!bigrosk_ini_is_over(&walk)) {
         bigrosk_ini_text(&walk, NULL);
         for (size_t left = bigrosk_ini_number(&walk); left > 0; left--) {
             size_t count = 0;
-            bigrosk_ini_text(&walk, NULL);
+            const char *key = bigrosk_ini_text(&walk, &count);
+            PROMISE(!is_strict || (!memchr(key, '\n', count) && !memchr(key, '\r', count)));
             const char *value = bigrosk_ini_text(&walk, &count);
             PROMISE(!memchr(value, '\n', count) && !memchr(value, '\r', count));
         }
@@ -193,8 +196,15 @@ static void write_and_load_by(document *it, const struct listing *listing, const
     free(text);
 }
 
+/* A fault of a text that the first five options read, and these don't, where backslashes make no difference: of
+ * a line without separator, or of a key that the text's end cuts short. */
+static bool is_of_lone_line(const fault *f)
+{
+    return f->kind == BIGROSK_INI_NO_SEPARATOR || f->kind == BIGROSK_INI_END_OF_TEXT;
+}
+
 /* The text by all options: as by the first five, but for backslashes where these are raw, which then keep no
- * line end. A text in pieces is read as a document is. */
+ * line end, and for lines without separator where these are refused. A text in pieces is read as a document is. */
 static void read_by(const struct input *input, uint32_t status, const struct listing *listing)
 {
     const struct bigrosk_ini_reading *reading = &input->reading;
@@ -204,12 +214,16 @@ static void read_by(const struct input *input, uint32_t status, const struct lis
     fault f = { 0, 0, 0, "" };
     bool is_raw = reading->raw_backslash && !reading->escapes;
     bool differs = is_raw && text.count && memchr(text.at, '\\', text.count);
+    bool is_strict = reading->lone_lines == BIGROSK_INI_LONE_LINES_REFUSED;
     uint32_t told = bigrosk_ini_load_by(text.at, text.count, input->drop_mark, reading, &it, &f);
-    PROMISE(told == status || (differs && (told == BIGROSK_INI_OK || told == BIGROSK_INI_BROKEN)));
+    PROMISE(told == status || (differs && (told == BIGROSK_INI_OK || told == BIGROSK_INI_BROKEN))
+        || (is_strict && told == BIGROSK_INI_BROKEN && is_of_lone_line(&f)));
+    PROMISE(f.kind != BIGROSK_INI_NO_SEPARATOR || is_strict);
+    PROMISE(f.kind <= BIGROSK_INI_NO_SEPARATOR && (told == BIGROSK_INI_BROKEN) == (f.kind >= BIGROSK_INI_END_OF_TEXT));
     if (told == BIGROSK_INI_OK) {
         struct listing had = listing_of(&it);
         PROMISE(differs || is_same_listing(&had, listing));
-        if (is_raw && !reading->quotes && !reading->multiline) are_of_one_line(&had);
+        if (is_raw && !reading->quotes && !reading->multiline) are_of_one_line(&had, is_strict);
         write_and_load_by(&it, &had, input);
         free_listing(&had);
     }

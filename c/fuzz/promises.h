@@ -22,7 +22,7 @@ struct bytes {
 /* What an input asks. */
 struct input {
     struct bigrosk_ini_read_option read;
-    struct bigrosk_ini_reading reading; /* the same, and raw backslashes */
+    struct bigrosk_ini_reading reading; /* the same, and the options that came later */
     struct bigrosk_ini_write_option write;
     bool drop_mark;
     bool named;

@@ -233,7 +233,8 @@ def _edited(
     if not isinstance(text, (str, bytes)):
         raise TypeError(f"the text of an edit is a str or bytes: this is {shown(text)}")
     whole = text.encode() if isinstance(text, str) else text
-    edited = (_opened_edited if options[0].raw_backslash else _bytes_edited)(name, whole, options, words, what)
+    call = _opened_edited if options[0].has_later_ones() else _bytes_edited
+    edited = call(name, whole, options, words, what)
     return edited.decode() if isinstance(text, str) else edited
 
 

@@ -35,7 +35,7 @@ def load_library() -> ctypes.CDLL:
 # A call leaves the interpreter's lock, so that other threads run meanwhile: Document has a lock of its own.
 library = load_library()
 OK, ABSENT, NO_ROOM, BROKEN, NOT_UTF8, NO_MEMORY = range(6)
-NO_DOCUMENT, UNPLAIN_VALUE, UNPLAIN_KEY, NO_PLACE, UNPLAIN_NAME, THERE = range(6, 12)
+NO_DOCUMENT, UNPLAIN_VALUE, UNPLAIN_KEY, NO_PLACE, UNPLAIN_NAME, THERE, UNKNOWN_OPTION = range(6, 13)
 UNNAMED = ctypes.c_size_t(-1).value
 KINDS = (
     None,
@@ -46,7 +46,9 @@ KINDS = (
     "missing key",
     "CR alone",
     "header end",
+    "no separator",
 )
+LONE_LINES = ("run on", "refused")
 UNWRITABLE = {UNPLAIN_VALUE: "value", UNPLAIN_KEY: "key", NO_PLACE: "place", UNPLAIN_NAME: "name"}
 
 
@@ -73,7 +75,8 @@ class Sizes(ctypes.Structure):
 
 class ReadOption(ctypes.Structure):
     """How a text is read. With raw_backslash, where escapes are off, a backslash is a character like any
-    other, before a line feed too."""
+    other, before a line feed too. With lone_lines="refused" a text is refused where no separator follows a key
+    in its line; else such keys "run on" over the line end."""
 
     _fields_ = [
         ("size", ctypes.c_uint8),
@@ -83,6 +86,7 @@ class ReadOption(ctypes.Structure):
         ("keep_indentation", ctypes.c_bool),
         ("brackets", ctypes.c_bool),
         ("raw_backslash", ctypes.c_bool),
+        ("_lone_lines", ctypes.c_uint8),
     ]
 
     def __init__(
@@ -93,9 +97,25 @@ class ReadOption(ctypes.Structure):
         keep_indentation: bool = False,
         brackets: bool = False,
         raw_backslash: bool = False,
+        lone_lines: str = "run on",
     ) -> None:
         size = ctypes.sizeof(ReadOption)
         super().__init__(size, quotes, escapes, multiline, keep_indentation, brackets, raw_backslash)
+        self.lone_lines = lone_lines
+
+    @property
+    def lone_lines(self) -> str:
+        return LONE_LINES[self._lone_lines]
+
+    @lone_lines.setter
+    def lone_lines(self, word: str) -> None:
+        if word not in LONE_LINES:
+            raise ValueError(f'lone lines "run on", or are "refused": this is {shown(word)}')
+        self._lone_lines = LONE_LINES.index(word)
+
+    def has_later_ones(self) -> bool:
+        """Whether an option that FirstFive lacks is another than by default."""
+        return bool(self.raw_backslash or self._lone_lines)
 
 
 class FirstFive(ctypes.Structure):
@@ -219,6 +239,8 @@ def is_done(status: int) -> bool:
         raise MemoryError
     if status == NO_DOCUMENT:
         raise ValueError("nothing is loaded")
+    if status == UNKNOWN_OPTION:
+        raise ValueError("a number stands for no option")
     return status == OK
 
 

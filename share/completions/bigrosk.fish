@@ -12,7 +12,7 @@ function __bigrosk_sort
             set bigrosk_option
         else
             switch $word
-                case --like --encoding --policy --output --default --type --separator --wait --format --allow --deny --section -s --indent-pairs --blank-lines --color --sort
+                case --like --encoding --policy --lone-lines --output --default --type --separator --wait --format --allow --deny --section -s --indent-pairs --blank-lines --color --sort
                     set bigrosk_option $word
                 case '-?*'
                 case '*'
@@ -34,8 +34,12 @@ function __bigrosk_policies
     printf '%s\n' Nothing Basics BasicsUnicode BasicsUnicodeExtended Reserved ReservedUnicode ReservedUnicodeExtended Everything
 end
 
+function __bigrosk_lone_lines
+    printf '%s\n' refused runs-on
+end
+
 function __bigrosk_options
-    printf '%s\n' --noescape --noquote --multiline --indent --brackets --raw-backslash --crlf --policy
+    printf '%s\n' --noescape --noquote --multiline --indent --brackets --raw-backslash --lone-lines --crlf --policy
 end
 
 # The sections of the file that is named.
@@ -64,9 +68,12 @@ function __bigrosk_ini_file
         case --policy
             __bigrosk_policies
             return
+        case --lone-lines
+            __bigrosk_lone_lines
+            return
         case --like
             printf '%s\n' auto crate git systemd desktop python php mysql samba windows kde supervisor fail2ban aws editorconfig npm qt hg \
-                pulseaudio odbc freetds sssd openssl uwsgi xrdp openttd
+                pulseaudio odbc freetds sssd openssl uwsgi xrdp openttd strict
             return
         case --encoding
             printf '%s\n' utf-8 utf-16le utf-16be latin1 windows1252
@@ -123,6 +130,8 @@ function __bigrosk_ini_tool
     __bigrosk_sort
     if test "$bigrosk_option" = --policy
         __bigrosk_policies
+    else if test "$bigrosk_option" = --lone-lines
+        __bigrosk_lone_lines
     else if test (count $bigrosk_arguments) -eq 0
         if string match -q -- '-*' (commandline -ct)
             __bigrosk_options

@@ -156,11 +156,13 @@ def module_numbers():
 
 def module_struct(fields):
     structs = [it for it in vars(calls_of_module).values() if isinstance(it, type) and issubclass(it, ctypes.Structure)]
-    return next((it for it in structs if hasattr(it, "_fields_") and {name for name, _ in it._fields_} == set(fields)), None)
+    return next((it for it in structs if {name for name, *_ in module_layout(it)[:-1]} == set(fields)), None)
 
 
 def module_layout(struct):
-    return [(it, getattr(struct, it).offset, getattr(struct, it).size) for it, _ in struct._fields_] + [ctypes.sizeof(struct)]
+    """The fields, without the underscore of one that holds the number of a word."""
+    fields = [(it, getattr(struct, it)) for it, _ in getattr(struct, "_fields_", ())]
+    return [(it.lstrip("_"), field.offset, field.size) for it, field in fields] + [ctypes.sizeof(struct)]
 
 
 def passed_as(of):
@@ -179,6 +181,10 @@ def compare_numbers():
     same("kinds", kinds, {spelled(it): int(n) for it, n in said})
     policies = numbers("policy")
     same("policies", policies, {spelled(it): n for it, n in cases(r"(\d+|_) => EscapePolicy::(\w+),", 7).items()})
+    lone = numbers("lone_lines")
+    same("lone lines", list(lone.values()), [int(n) for n in re.findall(r"(\d+) => Some\(LoneLine::\w+\),", SOURCES)])
+    words = [it.replace("_", " ").lower() for it in lone]
+    same("lone lines of the module", words, ["lone lines " + it for it in calls_of_module.LONE_LINES])
     separators = re.search(r"uint32_t separator; /\* (.*?) \*/", HEADER.read_text())[1]
     said = {text: 3 if n == "any other number" else int(n) for n, text in re.findall(r'(\d+|any other number) (".*?")', separators)}
     same("separators", said, cases(r'(\d+|_) => (".*?"),', 3))
@@ -196,7 +202,8 @@ def compare_structs():
         same(f"struct {name} in C and in the module", layout(name), module_layout(struct))
         if name in DEFAULTS:
             for it in FIELDS[name]:
-                same(f"default of {name} {it}", C[f"default {name} {it}"], int(getattr(struct(), it)))
+                had = getattr(struct(), f"_{it}", None)
+                same(f"default of {name} {it}", C[f"default {name} {it}"], int(getattr(struct(), it) if had is None else had))
     # a slice that is lent is a pointer and a length
     same("struct borrowed", [size for *_, size in layout("borrowed")[:-1]], [8, 8])
 

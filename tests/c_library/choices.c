@@ -90,13 +90,13 @@ static bool are_read(const struct bigrosk_ini_reading *reading, const char *p, b
     return good;
 }
 
-/* The struct with raw backslashes: each of its options alone, and the size that doesn't reach the last one. */
+/* The struct that may grow: raw backslashes, the size that doesn't reach them, and each of the first five alone. */
 static void readings(void)
 {
     struct bigrosk_ini_reading r = BIGROSK_INI_READING_DEFAULT;
     document d = BIGROSK_INI_EMPTY;
     fault f;
-    CHECK(r.size == sizeof r && r.size == 7);
+    CHECK(r.size == sizeof r && r.size == 8);
     CHECK(!are_read(&r, "C:xk=v", false)); /* \x begins an escape, and is broken */
     r.raw_backslash = true;
     CHECK(bigrosk_ini_load_by((const uint8_t *)"k=a\\tb\n", 7, true, &r, &d, &f) == BIGROSK_INI_OK);
@@ -122,7 +122,7 @@ static void readings(void)
         for (int raw = 0; raw < 2; raw++) {
             const bool *o = rows[i].others;
             struct bigrosk_ini_read_option five = { o[0], o[1], o[2], o[3], o[4] };
-            struct bigrosk_ini_reading all = { sizeof all, o[0], o[1], o[2], o[3], o[4], raw };
+            struct bigrosk_ini_reading all = { sizeof all, o[0], o[1], o[2], o[3], o[4], raw, BIGROSK_INI_LONE_LINES_RUN_ON };
             document one = BIGROSK_INI_EMPTY, other = BIGROSK_INI_EMPTY;
             const uint8_t *text = bigrosk_ini_bytes(rows[i].text);
             size_t n = strlen(rows[i].text), count = 0;
@@ -134,6 +134,67 @@ static void readings(void)
             bigrosk_ini_free(&one);
             bigrosk_ini_free(&other);
         }
+}
+
+/* what a document and an open text answer to a text that is read so: the same, with the same fault, and neither is opened where
+ * that is a refusal */
+static uint32_t answered(const struct bigrosk_ini_reading *reading, const char *text, fault *f)
+{
+    document d = BIGROSK_INI_EMPTY;
+    struct bigrosk_ini_text t = BIGROSK_INI_TEXT_EMPTY;
+    fault other = *f;
+    size_t n = strlen(text);
+    uint32_t status = bigrosk_ini_load_by((const uint8_t *)text, n, true, reading, &d, f);
+    CHECK(bigrosk_ini_text_open_by((const uint8_t *)text, n, reading, &t, &other) == status);
+    CHECK(f->kind == other.kind && f->line == other.line && f->column == other.column && !strcmp(f->message, other.message));
+    CHECK(d.is_open == (status == BIGROSK_INI_OK) && t.is_open == d.is_open);
+    bigrosk_ini_free(&d);
+    bigrosk_ini_text_close(&t);
+    return status;
+}
+
+/* Lines without separator: where they are refused, a number that stands for nothing, and a size that doesn't reach it. */
+static void lone_lines(void)
+{
+    static const struct { const char *text; uint32_t kind; size_t line, column; } rows[] = {
+        { "  ; c\nk=v\n", BIGROSK_INI_NO_SEPARATOR, 2, 1 }, { "abc\nk=v\n", BIGROSK_INI_NO_SEPARATOR, 2, 1 },
+        { "abc\rk=v\n", BIGROSK_INI_NO_SEPARATOR, 1, 5 },   { "[a] b\n", BIGROSK_INI_NO_SEPARATOR, 2, 1 },
+        { "abc", BIGROSK_INI_END_OF_TEXT, 1, 4 },             { "  abc", BIGROSK_INI_END_OF_TEXT, 1, 6 },
+        { " =v\n", BIGROSK_INI_MISSING_KEY, 1, 3 },           { "  \n  ", 0, 0, 0 },
+        { "a\\\nb=c\n", 0, 0, 0 },
+    };
+    struct bigrosk_ini_reading r = BIGROSK_INI_READING_DEFAULT, later = r;
+    document d = BIGROSK_INI_EMPTY;
+    CHECK(r.lone_lines == BIGROSK_INI_LONE_LINES_RUN_ON);
+    later.lone_lines = BIGROSK_INI_LONE_LINES_REFUSED;
+    for (size_t i = 0; i < sizeof rows / sizeof *rows; i++) {
+        fault f = { 0, 0, 0, "" };
+        CHECK(answered(&later, rows[i].text, &f) == (rows[i].kind ? BIGROSK_INI_BROKEN : BIGROSK_INI_OK));
+        CHECK(f.kind == rows[i].kind && f.line == rows[i].line && f.column == rows[i].column);
+        CHECK(f.kind != BIGROSK_INI_NO_SEPARATOR || !strcmp(f.message, "no separator follows the key in its line"));
+    }
+    for (int number = 0; number < 256; number++) {
+        fault f = { 77, 7, 7, "seven" };
+        later.lone_lines = (uint8_t)number;
+        later.size = sizeof later;
+        uint32_t want = number == 0 ? BIGROSK_INI_OK : number == 1 ? BIGROSK_INI_BROKEN : BIGROSK_INI_UNKNOWN_OPTION;
+        CHECK(answered(&later, "abc\nk=v\n", &f) == want && (f.kind == 77) == (number != 1));
+        CHECK(answered(&later, "k=v\n", &f) == (number < 2 ? BIGROSK_INI_OK : BIGROSK_INI_UNKNOWN_OPTION));
+        CHECK(answered(&later, "\xff", &f) == BIGROSK_INI_NOT_UTF8);
+        CHECK(bigrosk_ini_load_str("k=v\n", &d, &f) == BIGROSK_INI_OK);
+        CHECK(bigrosk_ini_is_plain_by(&d, &plain, &later) == (number < 2));
+        want = number < 2 ? BIGROSK_INI_OK : BIGROSK_INI_UNKNOWN_OPTION;
+        CHECK(bigrosk_ini_load_by((const uint8_t *)"j=w\n", 4, true, &later, &d, &f) == want);
+        CHECK(is_value(&d, NULL, number < 2 ? "j" : "k", number < 2 ? "w" : "v"));
+        /* a program that was compiled before */
+        later.size = sizeof later - 1;
+        CHECK(answered(&later, "abc\nk=v\n", &f) == BIGROSK_INI_OK && bigrosk_ini_is_plain_by(&d, &plain, &later));
+        struct bigrosk_ini_write_option w = plain;
+        CHECK(bigrosk_ini_dialect_by_str("hg", &later, &w) == BIGROSK_INI_OK);
+        CHECK(later.raw_backslash && later.lone_lines == number && later.size == sizeof later - 1);
+        later = r;
+    }
+    bigrosk_ini_free(&d);
 }
 
 /* whether the value, set in a document and in a text, is written so by the option; where it is no plain one, not in a text */
@@ -370,6 +431,7 @@ static void dialects(void)
         { "uwsgi", { true, true, false, false, false }, { BIGROSK_INI_NOTHING, false, 1 } },
         { "xrdp", { true, true, false, false, false }, { BIGROSK_INI_NOTHING, false, 0 } },
         { "openttd", { false, true, false, false, false }, { BIGROSK_INI_NOTHING, false, 1 } },
+        { "strict", { true, true, false, false, false }, { BIGROSK_INI_BASICS, false, 0 } },
     };
     static const char *const raw[] = { "python", "fail2ban", "aws", "hg", "mysql", NULL };
     for (size_t i = 0; i < sizeof rows / sizeof *rows; i++) {
@@ -379,14 +441,16 @@ static void dialects(void)
         CHECK(r.quotes == wanted.quotes && r.escapes == wanted.escapes && r.multiline == wanted.multiline);
         CHECK(r.keep_indentation == wanted.keep_indentation && r.brackets == wanted.brackets);
         CHECK(w.policy == rows[i].write.policy && w.crlf == rows[i].write.crlf && w.separator == rows[i].write.separator);
-        /* the struct with raw backslashes is told the same, and whether these are on */
+        /* the struct with further options is told the same, and these */
         for (int before = 0; before < 2; before++) {
-            struct bigrosk_ini_reading all = { sizeof all, before, before, before, before, before, before };
+            struct bigrosk_ini_reading all = { sizeof all, before, before, before, before, before, before, before };
             struct bigrosk_ini_write_option v = { 5, true, 9 };
             CHECK(bigrosk_ini_dialect_by_str(rows[i].name, &all, &v) == BIGROSK_INI_OK && all.size == sizeof all);
             CHECK(all.quotes == wanted.quotes && all.escapes == wanted.escapes && all.multiline == wanted.multiline);
             CHECK(all.keep_indentation == wanted.keep_indentation && all.brackets == wanted.brackets);
             CHECK(all.raw_backslash == is_word_of(raw, rows[i].name));
+            bool is_strict = !strcmp(rows[i].name, "strict");
+            CHECK(all.lone_lines == (is_strict ? BIGROSK_INI_LONE_LINES_REFUSED : BIGROSK_INI_LONE_LINES_RUN_ON));
             CHECK(v.policy == w.policy && v.crlf == w.crlf && v.separator == w.separator);
         }
     }
@@ -397,10 +461,10 @@ static void dialects(void)
         CHECK(bigrosk_ini_dialect_str(others[i], &r, &w) == (i == 4 ? BIGROSK_INI_NOT_UTF8 : BIGROSK_INI_ABSENT));
         CHECK(r.quotes && !r.escapes && r.multiline && !r.keep_indentation && r.brackets);
         CHECK(w.policy == 5 && w.crlf && w.separator == 9);
-        struct bigrosk_ini_reading all = { sizeof all, true, false, true, false, true, true };
+        struct bigrosk_ini_reading all = { sizeof all, true, false, true, false, true, true, 9 };
         CHECK(bigrosk_ini_dialect_by_str(others[i], &all, &w) == (i == 4 ? BIGROSK_INI_NOT_UTF8 : BIGROSK_INI_ABSENT));
         CHECK(all.size == sizeof all && all.quotes && !all.escapes && all.multiline && !all.keep_indentation);
-        CHECK(all.brackets && all.raw_backslash && w.policy == 5 && w.crlf && w.separator == 9);
+        CHECK(all.brackets && all.raw_backslash && all.lone_lines == 9 && w.policy == 5 && w.crlf && w.separator == 9);
     }
 }
 
@@ -408,6 +472,7 @@ int main(void)
 {
     read_options();
     readings();
+    lone_lines();
     dialects();
     policies();
     line_ends_and_separators();

@@ -30,7 +30,7 @@ static void nothing_is_loaded(void)
 /* each status has its own words, and no other number has them */
 static void words(void)
 {
-    const char *none = bigrosk_ini_status_text(BIGROSK_INI_THERE + 1);
+    const char *none = bigrosk_ini_status_text(BIGROSK_INI_UNKNOWN_OPTION + 1);
     CHECK(!strcmp(bigrosk_ini_status_text(BIGROSK_INI_OK), "done"));
     CHECK(!strcmp(bigrosk_ini_status_text(BIGROSK_INI_ABSENT), "no such pair or section"));
     CHECK(!strcmp(bigrosk_ini_status_text(BIGROSK_INI_NOT_UTF8), "not UTF-8"));
@@ -39,7 +39,7 @@ static void words(void)
     CHECK(strstr(bigrosk_ini_status_text(BIGROSK_INI_UNPLAIN_KEY), "key"));
     CHECK(strstr(bigrosk_ini_status_text(BIGROSK_INI_UNPLAIN_NAME), "name"));
     CHECK(!strcmp(none, bigrosk_ini_status_text(UINT32_MAX)));
-    for (uint32_t one = 0; one <= BIGROSK_INI_THERE; one++) {
+    for (uint32_t one = 0; one <= BIGROSK_INI_UNKNOWN_OPTION; one++) {
         CHECK(strcmp(bigrosk_ini_status_text(one), none));
         for (uint32_t other = 0; other < one; other++)
             CHECK(strcmp(bigrosk_ini_status_text(one), bigrosk_ini_status_text(other)));

@@ -83,8 +83,8 @@ def reading():
         same(Document(text).walk(), without)
         same(Document(text, default).walk(), without)
     # by their places
-    names.append("raw_backslash")
-    for values in ([False, True, False, True, False, True], [True, False, True, False, True, False]):
+    names += ["raw_backslash", "lone_lines"]
+    for values in ([False, True, False, True, False, True, "run on"], [True, False, True, False, True, False, "refused"]):
         option = ReadOption(*values)
         same([getattr(option, name) for name in names], values)
     same(ReadOption(True, False, True, False, True).raw_backslash, False)
@@ -131,6 +131,53 @@ def raw_backslashes():
     same([dialect(name)[0].raw_backslash for name in ("python", "systemd", "crate")], [True, False, False])
     same(Settings("p=C:\\\nk=v\n", dialect="python").get(None, "k"), "v")
     same(edit_set("p=C:\\\nk=v\n", None, "k", "\\", dialect="python"), "p=C:\\\nk=\\\n")
+
+
+STRICT = ReadOption(lone_lines="refused")
+
+
+def lone_lines():
+    """By lone_lines, a line without separator is refused, or its key runs on, by default."""
+    text, run_on = "abc\nk=v\n", [(None, [("abc\nk", "v")])]
+    for read in (None, ReadOption(), ReadOption(lone_lines="run on")):
+        for given in (Document(text, read), Settings(text, read)):
+            same(list(given.walk()), run_on)
+    for call in (Document, Settings):
+        error = raised(call, text, STRICT)
+        same((type(error), error.line, error.column, error.kind), (Broken, 2, 1, "no separator"))
+        same(list(call("a\\\nb=c\n[s]\n  k:v\n", STRICT).walk()), [(None, [("ab", "c")]), ("s", [("k", "v")])])
+        same(raised(call, "  abc", STRICT).kind, "end of text")
+        same(list(call("  abc").walk()), [(None, [])])
+    # each edit, as str and as bytes after a mark
+    for call, words, wanted in (
+        (edit_set, (None, "k", "w"), "k=w\n[s]\n"),
+        (edit_add, ("s", "j", "w"), "k=v\n[s]\nj=w\n"),
+        (edit_delete, (None, "k"), "[s]\n"),
+        (edit_rename_key, (None, "k", "j"), "j=v\n[s]\n"),
+        (edit_delete_section, ("s",), "k=v\n"),
+        (edit_rename_section, ("s", "t"), "k=v\n[t]\n"),
+    ):
+        same(call("k=v\n[s]\n", *words, read=STRICT), wanted)
+        same(call((MARK + "k=v\n[s]\n").encode(), *words, read=STRICT), (MARK + wanted).encode())
+        same(raised(call, "k=v\n[s]\nj\n", *words, read=STRICT).kind, "no separator")
+    # by words, and by these alone
+    option = ReadOption()
+    option.lone_lines = "refused"
+    same((option.lone_lines, type(raised(Document, text, option))), ("refused", Broken))
+    for word in ("keys", "", "Refused", 1, True, None):
+        for call in (lambda: ReadOption(lone_lines=word), lambda: setattr(option, "lone_lines", word)):
+            error = raised(call)
+            same((type(error), str(error)[:42]), (ValueError, 'lone lines "run on", or are "refused": thi'))
+    same(option.lone_lines, "refused")
+    # a number that this library doesn't know
+    option._lone_lines = 2
+    for call in (Document, Settings):
+        same(str(raised(call, "k=v\n", option)), "a number stands for no option")
+    same([Document("k=v\n").is_plain(None, read) for read in (STRICT, option)], [True, False])
+    # a dialect's
+    same([dialect(name)[0].lone_lines for name in ("python", "crate", "strict")], ["run on", "run on", "refused"])
+    same(edit_set("k=v\n", None, "k", "w", dialect="strict"), "k=w\n")
+    same(raised(edit_set, "k=v\nj\n", None, "k", "w", dialect="strict").kind, "no separator")
 
 
 def marks():
@@ -284,6 +331,7 @@ FAULTS = [
     ({}, "k=ü\n\n  =v", 3, 4, "missing key", "missing key"),
     ({"multiline": True}, "k=v\n\rx", 2, 3, "CR alone", "\\r is not followed by \\n"),
     ({"brackets": True}, "[a] x\nk=v", 2, 1, "header end", "section must be ended with ']'"),
+    ({"lone_lines": "refused"}, "k=v\nü\nj=w", 3, 1, "no separator", "no separator follows the key in its line"),
 ]
 
 
@@ -456,7 +504,7 @@ def threads():
     same(wrong, [])
 
 
-for part in (reading, raw_backslashes, dialects, marks, writing, plain, edits, faults, unwritable, absent, no_texts, copies):
+for part in (reading, raw_backslashes, lone_lines, dialects, marks, writing, plain, edits, faults, unwritable, absent, no_texts, copies):
     part()
 nothing_loaded()
 threads()

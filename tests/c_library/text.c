@@ -362,6 +362,7 @@ static void dialects(const char *path)
 {
     struct bigrosk_ini_file unit = BIGROSK_INI_FILE_EMPTY, git = BIGROSK_INI_FILE_EMPTY, none = BIGROSK_INI_FILE_EMPTY;
     struct bigrosk_ini_file nowhere = BIGROSK_INI_FILE_EMPTY, hg = BIGROSK_INI_FILE_EMPTY, before = BIGROSK_INI_FILE_EMPTY;
+    struct bigrosk_ini_file lone = BIGROSK_INI_FILE_EMPTY, unknown = BIGROSK_INI_FILE_EMPTY;
     struct bigrosk_ini_read_option five = BIGROSK_INI_READ_DEFAULT;
     char value[64] = "";
     put(path, "[Service]\nExecStart=\"/bin/a\" \\t\n");
@@ -389,6 +390,15 @@ static void dialects(const char *path)
     CHECK(bigrosk_ini_file_read(&before, path, &five) == BIGROSK_INI_OK);
     CHECK(!strcmp(bigrosk_ini_file_string(&before, NULL, "p", value, sizeof value, ""), "C:\\xk=v"));
     bigrosk_ini_file_close(&before);
+    /* a line without separator, by a reading that refuses it, and by one that there isn't */
+    struct bigrosk_ini_reading reading = BIGROSK_INI_READING_DEFAULT;
+    reading.lone_lines = BIGROSK_INI_LONE_LINES_REFUSED;
+    put(path, "\xef\xbb\xbf[a]\nk\nj=v\n");
+    CHECK(bigrosk_ini_file_read_by(&lone, path, &reading) == BIGROSK_INI_BROKEN);
+    CHECK(lone.place.line == 3 && lone.place.column == 1 && !strcmp(lone.message, "no separator follows the key in its line"));
+    reading.lone_lines++;
+    CHECK(bigrosk_ini_file_read_by(&unknown, path, &reading) == BIGROSK_INI_UNKNOWN_OPTION && unknown.place.line == 0);
+    CHECK(!lone.text.is_open && !unknown.text.is_open);
     put(path, "[user]\nname = a\\\\b\n");
     CHECK(bigrosk_ini_file_open_as(&none, path, "Git") == BIGROSK_INI_NO_DIALECT && none.place.line == 0);
     CHECK(bigrosk_ini_file_save(&none) == BIGROSK_INI_NO_DIALECT && is_file(path, "[user]\nname = a\\\\b\n"));

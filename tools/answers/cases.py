@@ -126,6 +126,7 @@ def loaded(*items):
     return " ".join(words)
 
 
+NO_SEPARATOR = "no separator follows the key in its line"
 NO_ENDPOINT = "expecting \"[Some('='), Some(':')]\" but found EOF."
 
 # Each departure: the option set, the smallest text that shows it, the answer here, and the crate's.
@@ -171,10 +172,27 @@ BY_HAND = (
     ("01000 6b3d615c0d6a3d620a", loaded(("k", "a\\\rj=b"))),
     ("010001 6b3d615c0d6a3d620a", loaded(("k", "a\\"), ("j", "b"))),
     ("110001 6b3d615c0a", loaded(("k", "a"))),
+    ("1100001 20203b20630a6b3d760a", f"err 2:1 {NO_SEPARATOR}"),
+    ("1100001 6162630a6b3d760a", f"err 2:1 {NO_SEPARATOR}"),
+    ("1100001 6162630d6b3d760a", f"err 1:5 {NO_SEPARATOR}"),
+    ("1100001 6162630d0a6b3d760a", f"err 1:5 {NO_SEPARATOR}"),
+    ("1100001 616263", f"err 1:4 {NO_ENDPOINT}"),
+    ("1100001 2020616263", f"err 1:6 {NO_ENDPOINT}"),
+    ("1100001 20200a2020", loaded()),
+    ("1100001 615c0a623d630a", loaded(("ab", "c"))),
+    ("0100001 615c0a623d630a", loaded(("ab", "c"))),
+    ("0100011 615c0a623d630a", f"err 2:1 {NO_SEPARATOR}"),
+    ("1100001 5c0a0a3d", f"err 3:1 {NO_SEPARATOR}"),
+    ("1100001 5b615d20620a", f"err 2:1 {NO_SEPARATOR}"),
+    ("1100101 5b615d20620a", "err 2:1 section must be ended with ']'"),
+    ("1100001 203d760a", "err 1:3 missing key"),
+    ("1110001 6b3d760a20770a780a", f"err 4:1 {NO_SEPARATOR}"),
+    ("1100000 6162630a6b3d760a", loaded(("abc\nk", "v"))),
+    ("Basics LF 1100001 20206b3d760a", "written 6b3d760a"),
     *(
         (line, "no question")
         for line in (
-            "", "11000", "1100 6b", "1100000 6b", "11002 6b", "110002 6b", "11000 6", "11000 6g", "11000 c3", "11000  6b", "Basics 11000 6b",
+            "", "11000", "1100 6b", "11000000 6b", "11002 6b", "110002 6b", "1100002 6b", "11000 6", "11000 6g", "11000 c3", "11000  6b", "Basics 11000 6b",
             "Basics LF 11000", "basics LF 11000 6b", "Basics CR 11000 6b", "Basics LF 1100 6b", "Basics LF 11000 6",
             "Basics LF 11000 6b ", "LF Basics 11000 6b",
         )

@@ -3,6 +3,7 @@
 
     compare.py texts ANSWERS CRATE BRACKETS [--written] [--less N] [--random N] [--damaged N] [--seed N]
     compare.py raw ANSWERS [--less N] [--random N] [--damaged N] [--seed N]
+    compare.py lone ANSWERS [--less N] [--random N] [--damaged N] [--seed N]
     compare.py departures ANSWERS CRATE
     compare.py stored CRATE BRACKETS FOLDER
 
@@ -24,8 +25,9 @@ several texts of one batch give is written once for that batch. What the two loa
 isn't written. With `--less 1` the whole then takes some five minutes.
 
 `raw` loads such texts by the options with raw backslashes, which the crate lacks, and compares with the line grammar, by the
-reader in grammar.py. It prints the smallest texts that are answered otherwise; the status is 1 if there is one. The short
-texts are two characters shorter by default.
+reader in grammar.py; `lone` does so by those that refuse a line without separator, of both kinds of backslashes. They print
+the smallest texts that are answered otherwise; the status is 1 if there is one. The short texts are two characters shorter
+by default.
 
 `departures` shows the smallest text of each declared departure, with what both programs answer, and fails where that is
 not what cases.py says.
@@ -51,6 +53,7 @@ from grammar import DEPARTURES, Option, Reader
 
 OPTIONS = sorted((Option(*flags) for flags in itertools.product((True, False), repeat=5)), key=Option.changes)
 RAW_OPTIONS = [option._replace(raw=True) for option in OPTIONS]
+LONE_OPTIONS = [option._replace(lone=1) for option in OPTIONS + RAW_OPTIONS]
 
 
 class Crate(NamedTuple):
@@ -206,6 +209,14 @@ def compare_texts(arguments):
 
 
 def compare_raw(arguments):
+    return compare_lacked(arguments, RAW_OPTIONS, lambda digits: "5c" in digits)
+
+
+def compare_lone(arguments):
+    return compare_lacked(arguments, LONE_OPTIONS, lambda digits: True)
+
+
+def compare_lacked(arguments, options, is_telling):
     sorts = {
         "short texts": texts.short_texts(arguments.less),
         "random texts": texts.made(texts.random_text, arguments.random, arguments.seed),
@@ -216,9 +227,9 @@ def compare_raw(arguments):
     for sort, some in sorts.items():
         count = 0
         for batch in texts.batches(some):
-            batch = [digits for digits in batch if "5c" in digits]
-            asked = [(option, bytes.fromhex(digits).decode()) for option in RAW_OPTIONS for digits in batch]
-            found = answers(arguments.answers, questions_of(batch, RAW_OPTIONS))
+            batch = [digits for digits in batch if is_telling(digits)]
+            asked = [(option, bytes.fromhex(digits).decode()) for option in options for digits in batch]
+            found = answers(arguments.answers, questions_of(batch, options))
             for (option, text), line in zip(asked, found.decode().splitlines()):
                 wanted = Reader(text, option).answer()
                 if line != wanted:
@@ -323,11 +334,12 @@ def main():
     command.add_argument("--written", action="store_true")
     for name, size in (("--less", 0), ("--random", 100_000), ("--damaged", 20_000), ("--seed", 1)):
         command.add_argument(name, type=int, default=size)
-    command = commands.add_parser("raw")
-    command.set_defaults(run=compare_raw)
-    command.add_argument("answers")
-    for name, size in (("--less", 2), ("--random", 20_000), ("--damaged", 5_000), ("--seed", 1)):
-        command.add_argument(name, type=int, default=size)
+    for lacked, run in (("raw", compare_raw), ("lone", compare_lone)):
+        command = commands.add_parser(lacked)
+        command.set_defaults(run=run)
+        command.add_argument("answers")
+        for name, size in (("--less", 2), ("--random", 20_000), ("--damaged", 5_000), ("--seed", 1)):
+            command.add_argument(name, type=int, default=size)
     command = commands.add_parser("departures")
     command.set_defaults(run=show_departures)
     command.add_argument("answers")

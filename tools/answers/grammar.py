@@ -16,10 +16,13 @@ HEXADECIMAL = frozenset("0123456789abcdefABCDEF")
 
 # Where a string ends, and what a refusal at the text's end says there. Only a plain part may end with the text.
 NAME, BRACKETED_NAME, KEY, DOUBLE, SINGLE, PLAIN = "]", "\r\n", "=:", '"', "'", "\n\r"
+# Where a key ends if lines without separator are refused; its refusal at the text's end names the separators alone.
+KEY_IN_LINE = KEY + LINE_ENDS
 EXPECTED = {
     NAME: "[Some(']')]",
     BRACKETED_NAME: "[Some('\\r'), Some('\\n')]",
     KEY: "[Some('='), Some(':')]",
+    KEY_IN_LINE: "[Some('='), Some(':')]",
     DOUBLE: "[Some('\"')]",
     SINGLE: "[Some('\\'')]",
     PLAIN: "[Some('\\n'), Some('\\r'), None]",
@@ -55,11 +58,12 @@ class Option(NamedTuple):
     indent: bool
     brackets: bool
     raw: bool = False
+    lone: int = 0  # of a line without separator: 0 its key runs on, 1 the text is refused
 
     def flags(self):
-        """A digit for each; the last one, which the crate lacks, only where it is 1."""
+        """A digit for each; the last two, which the crate lacks, only as far as they aren't 0."""
         digits = "".join(str(int(flag)) for flag in self)
-        return digits if self.raw else digits[:-1]
+        return digits[:5] + digits[5:].rstrip("0")
 
     def changes(self):
         """How many of the options are not as they are by default."""
@@ -195,7 +199,7 @@ class Reader:
             self.waiting = (WHITE_BEHIND_BLANK_LINE, BLANKS_BEHIND_BLANK_LINE)
         elif self.next_is("["):
             self.read_header()
-        else:
+        elif self.at < len(self.text):
             self.read_indented_key(self.text[start : self.at])
 
     def read_indented_key(self, indentation):
@@ -209,12 +213,14 @@ class Reader:
 
     def read_pair(self, indentation):
         try:
-            key = self.read_string(KEY)
+            key = self.read_string(KEY_IN_LINE if self.option.lone else KEY)
         except EndOfText:
-            if not indentation:
+            if self.option.lone or not indentation:
                 raise
             self.at = len(self.text)
             return
+        if self.next_is(LINE_ENDS):
+            raise Stop(self.at + 1, "no separator follows the key in its line")
         key = (indentation + key).rstrip(WHITE) if self.option.indent else key.strip(WHITE)
         if not key:
             raise Stop(self.at + 1, "missing key")

@@ -9,6 +9,7 @@ DEFAULT = Option(escape=True, quote=True, multiline=False, indent=False, bracket
 MULTILINE = DEFAULT._replace(multiline=True)
 ESCAPES_OFF = DEFAULT._replace(escape=False)
 RAW_BACKSLASHES = ESCAPES_OFF._replace(raw=True)
+STRICT = DEFAULT._replace(lone=1)
 INDENT = DEFAULT._replace(indent=True)
 BASICS = Writing("Basics", "\n", "=")
 CRLF = Writing("Reserved", "\r\n", " = ")
@@ -139,7 +140,9 @@ NEW_SECTIONS = (
 # Values with backslashes where escapes are off: the text, and the values.
 RAW_TEXTS = ("path = C:\\temp \n", "path='C:\\temp'\n", "[a]\nj=w", "j=w\\", "path=1\npath=2\\\\\r\n")
 # Lines that end in backslashes.
-RAW_LINES = ("k=v\\\nj=w", "k\\=v\\", "[a\\]\nk=v\\\r\n[b]", "k=v\\\rj\\=w\n[a\\]", "k='v\\' w \n")
+RAW_LINES = ("k=v\\\nj=w", "k\\=v\\", "[a\\]\nk=v\\\r\n[b]", "k=v\\\rj\\=w\n[a\\]", "k='v\\' w \n", "k=v\\ \t\nj\\=w\\ ")
+# Texts with lines without separator, and without, where these are refused.
+STRICT_TEXTS = ("k=v\n[a]\n", "abc\nk=v\n[a]", "[a]\n  k=v\n  abc", "[a]\n\\\nk=v\n  ", "k\\\n=v\n  \n[a]j=w\\\n", "[a] k\rj=w")
 RAW_VALUES = ["C:\\new", "C:\\new\\", "C:\\new\\\\", "\\\\\\", "'\\'", "it's\\n", "a\\\nb", "a\\\rb", "a\\ ", "\\", "\\\\"]
 VALUES = ["", " v", '"v', "'", "a\tb", "a\nb", "a\\b", "\v", "é", "\U0001f431", "#", "a=b"]
 KEYS = ["", " k", "k ", "[k", ";k", "a=b", "a:b", "\tk", "é", "k\n", "  \tk", "\xa0k"]
@@ -191,6 +194,11 @@ def plain_and_unplain():
             yield Question(call, RAW_BACKSLASHES, raw, None, key, "n\\", text)
         yield Question("rename_section", RAW_BACKSLASHES, raw, "a\\", "", "n\\", text)
         yield Question("delete_section", RAW_BACKSLASHES, raw, "a\\", "", "", text)
+    for text in STRICT_TEXTS:
+        for name, call in itertools.product((None, "a"), ("set", "add", "delete", "rename_key")):
+            yield Question(call, STRICT, BASICS, name, "k", "n", text)
+        yield Question("rename_section", STRICT, BASICS, "a", "", "n", text)
+        yield Question("delete_section", STRICT._replace(multiline=True), BASICS, "a", "", "", text)
     for value in RAW_VALUES:
         yield Question("set", ESCAPES_OFF._replace(multiline=True, quote=False), raw, None, "path", value, "path=1 \n  2\n\n")
         yield Question("set", DEFAULT, raw, None, "path", value, "path=1\n")

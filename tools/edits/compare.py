@@ -77,7 +77,7 @@ def random_question(chance):
     text = "".join(chance.choices(PIECES, k=chance.randrange(14)))
     if chance.random() < 0.3:
         text = quoted_pair(chance) + text
-    option = Option(*(chance.random() < p for p in (0.5, 0.5, 0.5, 0.5, 0.5, 0.3)))
+    option = Option(*(chance.random() < p for p in (0.5, 0.5, 0.5, 0.5, 0.5, 0.3, 0.3)))
     separator = chance.choice(SEPARATORS if chance.random() < 0.95 else UNPLAIN_SEPARATORS)
     writing = Writing(chance.choice(POLICIES), chance.choice(["\n", "\r\n"]), separator)
     name = chance.choice([None, None, "a", "a", "b", "c", "", chance.choice(NAMES)])

@@ -23,11 +23,12 @@ class Option(NamedTuple):
     indent: bool
     brackets: bool
     raw: bool = False
+    lone: int = 0  # of a line without separator: 0 its key runs on, 1 the text is refused
 
     def flags(self):
-        """A digit for each, as questions have them; the last one only where it is 1."""
+        """A digit for each, as questions have them; the last two only as far as they aren't 0."""
         digits = "".join(str(int(flag)) for flag in self)
-        return digits if self.raw else digits[:-1]
+        return digits[:5] + digits[5:].rstrip("0")
 
     def has_special_backslash(self):
         """Whether a backslash takes the character behind it along."""
@@ -171,7 +172,7 @@ class Reader:
     def line(self, is_first):
         """A value's line, to its end: what it gives, and where white space at its end begins.
 
-        White space that a backslash stands before is the value's own, but where backslashes are raw.
+        White space that a backslash stands before is the value's own, but where backslashes take nothing along.
         """
         self.skip(INLINE_WHITE)
         quoted, behind, self.parts = "", self.at, []
@@ -183,7 +184,7 @@ class Reader:
         plain, solid = self.string(LINE_ENDS, may_end=True)
         plain = plain.strip(WHITE) if is_first and not self.parts else plain.rstrip(WHITE)
         own = self.text[behind : self.at].rstrip(INLINE_WHITE)
-        keeps = own.endswith("\\")
+        keeps = own.endswith("\\") and self.option.has_special_backslash()
         return quoted + plain, self.at if keeps else max(solid, behind)
 
     def value(self, pair):
@@ -217,12 +218,14 @@ class Reader:
     def pair(self, element, is_indented):
         key_start = self.at
         try:
-            key = self.string("=:")[0]
+            key = self.string("=:" + (LINE_ENDS if self.option.lone else ""))[0]
         except Stop as stop:
-            if not is_indented or stop.kind != "EndOfText":
+            if self.option.lone or not is_indented or stop.kind != "EndOfText":
                 raise
             element.kind, self.at = "dropped", len(self.text)
             return
+        if self.sees(LINE_ENDS):
+            raise Stop("NoSeparator", self.at + 1)
         indented = (self.text[element.start : key_start] + key).rstrip(WHITE)
         element.kind, element.text = "pair", indented if self.option.indent else key.strip(WHITE)
         element.key_end = self.at

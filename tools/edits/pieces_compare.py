@@ -81,7 +81,7 @@ def random_edit(chance, page, in_row):
 def random_question(chance):
     """A text that the options read, and one edit, several, or a hundred in a row."""
     while True:
-        option = Option(*(chance.random() < p for p in (0.8, 0.8, 0.5, 0.2, 0.1, 0.4)))
+        option = Option(*(chance.random() < p for p in (0.8, 0.8, 0.5, 0.2, 0.1, 0.4, 0.3)))
         text = random_text(chance)
         try:
             page = Page(text, option)
@@ -107,7 +107,7 @@ def parsed(line):
     for edit in edits:
         call, name, key, other, value, number = edit.split(",")
         made.append(Edit(call, None if name == "G" else undone(name[1:]), undone(key), undone(other), undone(value), int(number)))
-    return Option(*(flag == "1" for flag in flags)), writing, undone(text), made
+    return Option(*map(int, flags)), writing, undone(text), made
 
 
 def shown(word):

@@ -5,8 +5,8 @@ the library's code: the text is read anew for each edit, and whether a form or a
 """
 from typing import NamedTuple, Optional
 
-from model import BLANKS, LINE_ENDS, Reader, Refused, escaped, is_column_one, is_plain_key, is_plain_name
-from model import is_plain_separator, is_plain_unspaced_key, is_read_back, line_end_at, starts_line
+from model import BLANKS, INLINE_WHITE, LINE_ENDS, WHITE, Reader, Refused, escaped, is_column_one, is_plain_key
+from model import is_plain_name, is_plain_separator, is_plain_unspaced_key, is_read_back, line_end_at, starts_line
 
 MARKS = ";#"
 
@@ -356,7 +356,9 @@ def rename_key(page, writing, edit):
         raise Refused("Key")
     for pair in page.pairs(edit.name, edit.key)[:1]:
         source = page.text[pair.start : pair.key_end]
-        own = source.rstrip() if option.indent else source.strip()
+        # where keys end with their line, a line end stands behind a backslash, and is the key's
+        white = INLINE_WHITE if option.lone else WHITE
+        own = (source if option.indent else source.lstrip(WHITE)).rstrip(white)
         start = pair.start + source.index(own)
         return page.text[:start] + escaped(policy, new) + page.text[start + len(own) :]
     return None

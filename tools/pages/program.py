@@ -115,6 +115,7 @@ def statuses():
 # what each way to read and each rule is called on a page
 READ = {
     "STANDARD": "",
+    "STRICT": "`--lone-lines refused`",
     "RAW": "`--noescape`",
     "LITERAL": "`--noescape --raw-backslash`",
     "UNQUOTED": "`--noquote`",

@@ -1,6 +1,9 @@
 -- How a text is read and a document written, as C says it.
 use Rattle.std.specs.Prelude.{◌≡◌, ◌==◌, if◌then◌else◌, ℕ, Bool, true, false, List, length}
 use Rattle.std.specs.Prelude.{Option, Some, None, codes, encode_utf8_all, IsTrue, ◌↔◌, ◌&&◌, nat_le}
+use Rattle.std.specs.Option.{option_map}
+use Rattle.ini_text.specs.declared.option.LoneLine.{LoneLine}
+use Rattle.ini_text.specs.declared.option.LoneLine.TheVariants.{RunsOn, Refused}
 use Rattle.ini_text.specs.declared.option.ParseOption.{ParseOption}
 use Rattle.ini.specs.Plain.{IsPlain}
 use Rattle.ini.specs.Documents.{Document}
@@ -26,24 +29,35 @@ parse_option o = record {
   enabled_preserve_key_leading_whitespace = o.keep_indentation;
   enabled_brackets_in_section_names = o.brackets;
   enabled_raw_backslash = false;
+  line_without_separator = RunsOn;
 }
 
--- the options that stand there
-abbrev pub options_there : Reading → ParseOption
-options_there r = record {
+-- what becomes of a line without separator, by its number: other numbers stand for nothing
+abbrev pub lone_line_of : ℕ → Option LoneLine
+lone_line_of n = if n == 0 then Some RunsOn else if n == 1 then Some Refused else None
+
+-- the options that stand there, with what becomes of a line without separator
+abbrev pub options_with : LoneLine → Reading → ParseOption
+options_with line r = record {
   enabled_quote = r.quotes;
   enabled_escape = r.escapes;
   enabled_indented_mutiline_value = r.multiline;
   enabled_preserve_key_leading_whitespace = r.keep_indentation;
   enabled_brackets_in_section_names = r.brackets;
   enabled_raw_backslash = r.raw_backslash;
+  line_without_separator = line;
 }
 
--- the options by which a text is read: one that the size doesn't reach is off
-abbrev pub reading_option : Reading → ParseOption
-reading_option r = record (options_there r) {
-  enabled_raw_backslash = nat_le 7 r.size && r.raw_backslash;
-}
+-- what becomes of a line without separator: where the size doesn't reach the number, its key runs on
+abbrev pub lone_line_there : Reading → Option LoneLine
+lone_line_there r = lone_line_of (if nat_le 8 r.size then r.lone_lines else 0)
+
+-- The options by which a text is read, if each number stands for one. What the size doesn't reach has its
+-- default.
+abbrev pub reading_option : Reading → Option ParseOption
+reading_option r = option_map
+    (λ line. record (options_with line r) { enabled_raw_backslash = nat_le 7 r.size && r.raw_backslash })
+    (lone_line_there r)
 
 -- the policy of a number
 abbrev pub policy_of : ℕ → EscapePolicy
@@ -85,3 +99,8 @@ abbrev pub TellsPlain : WriteChoice → ParseOption → Bool → Option Document
 TellsPlain choice read told (Some d) =
     (write : WriteOption) → IsWriteOption choice write → IsTrue told ↔ IsPlain d write read
 TellsPlain choice read told None = told ≡ false
+
+-- the same by options of which one may be unknown: then it is not so
+abbrev pub TellsPlainBy : WriteChoice → Option ParseOption → Bool → Option Document → Type 0
+TellsPlainBy choice (Some read) told document = TellsPlain choice read told document
+TellsPlainBy choice None told document = told ≡ false

@@ -9,7 +9,7 @@ use Rattle.ini_text.specs.declared.error.ParseError.{ParseError}
 use Rattle.ini_text.specs.declared.error.ParseKind.{ParseKind}
 use Rattle.ini_text.specs.declared.error.ParseKind.TheVariants.{EndOfText, BrokenEscape, UnknownCharacter}
 use Rattle.ini_text.specs.declared.error.ParseKind.TheVariants.{InlineComment, MissingKey, CrAlone}
-use Rattle.ini_text.specs.declared.error.ParseKind.TheVariants.{HeaderEnd}
+use Rattle.ini_text.specs.declared.error.ParseKind.TheVariants.{HeaderEnd, NoSeparator}
 use Rattle.ini_text.specs.declared.option.ParseOption.{ParseOption}
 use Rattle.ini_c.specs.declared.fault.Fault.{Fault}
 
@@ -22,6 +22,7 @@ kind_number InlineComment = 4
 kind_number MissingKey = 5
 kind_number CrAlone = 6
 kind_number HeaderEnd = 7
+kind_number NoSeparator = 8
 
 -- how many bytes of the words are shown: there is room for 63, and a 0 after them
 abbrev pub shown_count : List ℕ → ℕ

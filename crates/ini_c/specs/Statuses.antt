@@ -37,6 +37,9 @@ unplain_name = 10
 abbrev pub there : ℕ
 there = 11
 
+abbrev pub unknown_option : ℕ
+unknown_option = 12
+
 -- whether a status is one of these
 abbrev pub is_among : ℕ → List ℕ → Bool
 is_among status [] = false

@@ -1,16 +1,17 @@
 //! The options of a dialect, by its name. This file knows their numbers, and not what a name stands for.
-ghost use Rattle.std.specs.Prelude.{◌≡◌, ◌∷◌, [], ◌↔◌, IfSome, IsSome, IsSomeAnd, IsTrue};
+ghost use Rattle.std.specs.Prelude.{◌≡◌, ◌∷◌, [], ◌↔◌, IfSome, IsSome, IsSomeAnd, IsTrue, Some};
+ghost use Rattle.std.specs.Prelude.{false, nat_le};
 ghost use Rattle.std.specs.Str.{IsUtf8};
 ghost use Rattle.ini_text.specs.Options.WriteOptions.{line_end};
 ghost use Rattle.ini_dialect.specs.Dialects.{dialect_of};
-ghost use Rattle.ini_c.specs.Choices.{line_end_if, policy_of, separator_of};
-ghost use Rattle.ini_c.specs.Named.{HasNumber, TellsPreset, TellsReading, has_number};
+ghost use Rattle.ini_c.specs.Choices.{line_end_if, lone_line_of, policy_of, separator_of};
+ghost use Rattle.ini_c.specs.Named.{HasNumber, HasOptions, TellsPreset, TellsReading, has_number};
 ghost use Rattle.ini_c.specs.Statuses.{absent, is_among, not_utf8, ok};
 
 use crate::options::{ReadChoice, Reading, WriteChoice};
 use crate::{ABSENT, NOT_UTF8, OK};
 use ini_dialect::Dialect;
-use ini_text::{EscapePolicy, LineSeparator};
+use ini_text::{EscapePolicy, LineSeparator, LoneLine, ParseOption};
 
 // The number of a policy.
 fn policy_number(policy: EscapePolicy) -> u32
@@ -56,8 +57,36 @@ fn separator_number(separator: &str) -> Option<u32>
     }
 }
 
-/// Tells how the files of a dialect are read, by all options that there are, and how lines are written into
-/// them: `ABSENT` where no dialect has the name. Refused, the two options stay, and the size always does.
+// The number of what becomes of a line without separator.
+fn lone_line_number(line: LoneLine) -> u8
+    ensures { lone_line_of result ≡ Some line }
+{
+    match line {
+        LoneLine::RunsOn => 0,
+        LoneLine::Refused => 1,
+    }
+}
+
+// Tells the options, as many as the struct has.
+fn tell_reading(options: ParseOption, reading: &mut Reading)
+    ensures told { HasOptions reading.new options }
+    ensures size { reading.new.size ≡ reading.old.size }
+    ensures beyond { nat_le 8 reading.old.size ≡ false → reading.new.lone_lines ≡ reading.old.lone_lines }
+{
+    reading.quotes = options.enabled_quote;
+    reading.escapes = options.enabled_escape;
+    reading.multiline = options.enabled_indented_mutiline_value;
+    reading.keep_indentation = options.enabled_preserve_key_leading_whitespace;
+    reading.brackets = options.enabled_brackets_in_section_names;
+    reading.raw_backslash = options.enabled_raw_backslash;
+    if reading.size >= 8 {
+        reading.lone_lines = lone_line_number(options.line_without_separator);
+    }
+}
+
+/// Tells how the files of a dialect are read, by all options that the struct has, and how lines are written
+/// into them: `ABSENT` where no dialect has the name. Refused, the two options stay; the size always does,
+/// and what it doesn't reach.
 #[unsafe(no_mangle)]
 pub extern "C" fn bigrosk_ini_dialect_by(
     name: &[u8],
@@ -70,6 +99,7 @@ pub extern "C" fn bigrosk_ini_dialect_by(
     ensures reading_stays { ¬ (result ≡ ok) → reading.new ≡ reading.old }
     ensures write_stays { ¬ (result ≡ ok) → write.new ≡ write.old }
     ensures size { reading.new.size ≡ reading.old.size }
+    ensures beyond { nat_le 8 reading.old.size ≡ false → reading.new.lone_lines ≡ reading.old.lone_lines }
     ensures statuses { IsTrue (is_among result (ok ∷ absent ∷ not_utf8 ∷ [])) }
 {
     let Ok(name) = str::from_utf8(name) else {
@@ -81,13 +111,7 @@ pub extern "C" fn bigrosk_ini_dialect_by(
     let Some(separator) = separator_number(dialect.write.kv_separator) else {
         return ABSENT;
     };
-    let options = dialect.read;
-    reading.quotes = options.enabled_quote;
-    reading.escapes = options.enabled_escape;
-    reading.multiline = options.enabled_indented_mutiline_value;
-    reading.keep_indentation = options.enabled_preserve_key_leading_whitespace;
-    reading.brackets = options.enabled_brackets_in_section_names;
-    reading.raw_backslash = options.enabled_raw_backslash;
+    tell_reading(dialect.read, reading);
     write.policy = policy_number(dialect.write.escape_policy);
     write.crlf = is_crlf(dialect.write.line_separator);
     write.separator = separator;
@@ -116,6 +140,7 @@ pub extern "C" fn bigrosk_ini_dialect(
         keep_indentation: read.keep_indentation,
         brackets: read.brackets,
         raw_backslash: false,
+        lone_lines: 0,
     };
     let status = bigrosk_ini_dialect_by(name, &mut reading, write);
     read.quotes = reading.quotes;

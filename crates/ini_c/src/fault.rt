@@ -30,6 +30,7 @@ fn number_of(kind: ParseKind) -> u32
         ParseKind::MissingKey => 5,
         ParseKind::CrAlone => 6,
         ParseKind::HeaderEnd => 7,
+        ParseKind::NoSeparator => 8,
     }
 }
 

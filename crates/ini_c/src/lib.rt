@@ -109,6 +109,8 @@ pub const NO_PLACE: u32 = 9;
 pub const UNPLAIN_NAME: u32 = 10;
 /// A section of the name is there.
 pub const THERE: u32 = 11;
+/// A number stands for no option of reading.
+pub const UNKNOWN_OPTION: u32 = 12;
 
 /// The version: a hundred for each minor one, ten thousand for each major one.
 #[unsafe(no_mangle)]

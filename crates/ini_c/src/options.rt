@@ -1,9 +1,11 @@
 //! Options as C gives them: numbers and bools. This file knows their names in `ini`.
 ghost use Rattle.std.specs.Prelude.{◌≡◌, chars};
 ghost use Rattle.ini_text.specs.Laws.Plain.{IsPlainSeparator};
-ghost use Rattle.ini_c.specs.Choices.{IsWriteOption, parse_option, reading_option, separator_of};
+ghost use Rattle.ini_c.specs.Choices.{IsWriteOption, lone_line_there, parse_option, reading_option};
+ghost use Rattle.ini_c.specs.Choices.{separator_of};
 
 use ini::{EscapePolicy, LineSeparator, ParseOption, WriteOption};
+use ini_text::LoneLine;
 
 /// How a text is read, by the options of version 0.3.0.
 #[repr(C)]
@@ -21,7 +23,7 @@ pub struct ReadChoice {
     pub brackets: bool,
 }
 
-/// How a text is read. The struct may grow: an option that its size doesn't reach is off.
+/// How a text is read. The struct may grow: an option that its size doesn't reach has its default.
 #[repr(C)]
 #[derive(Drop)]
 pub struct Reading {
@@ -39,6 +41,8 @@ pub struct Reading {
     pub brackets: bool,
     /// Where escapes are off, a backslash is a character like any other, before LF too.
     pub raw_backslash: bool,
+    /// What becomes of a line without separator: 0 its key runs on, 1 the text is refused; no other number.
+    pub lone_lines: u8,
 }
 
 /// How a document is written.
@@ -64,21 +68,38 @@ impl ReadChoice {
             enabled_preserve_key_leading_whitespace: self.keep_indentation,
             enabled_brackets_in_section_names: self.brackets,
             enabled_raw_backslash: false,
+            line_without_separator: LoneLine::RunsOn,
         }
     }
 }
 
 impl Reading {
-    pub(crate) fn to_option(&self) -> ParseOption
+    /// `None` where a number stands for no option.
+    pub(crate) fn to_option(&self) -> Option<ParseOption>
         ensures { result ≡ reading_option self.now }
     {
-        ParseOption {
+        Some(ParseOption {
             enabled_quote: self.quotes,
             enabled_escape: self.escapes,
             enabled_indented_mutiline_value: self.multiline,
             enabled_preserve_key_leading_whitespace: self.keep_indentation,
             enabled_brackets_in_section_names: self.brackets,
             enabled_raw_backslash: self.size >= 7 && self.raw_backslash,
+            line_without_separator: self.lone_line()?,
+        })
+    }
+
+    // What becomes of a line without separator, if the number stands for that.
+    fn lone_line(&self) -> Option<LoneLine>
+        ensures { result ≡ lone_line_there self.now }
+    {
+        if self.size < 8 {
+            return Some(LoneLine::RunsOn);
+        }
+        match self.lone_lines {
+            0 => Some(LoneLine::RunsOn),
+            1 => Some(LoneLine::Refused),
+            _ => None,
         }
     }
 }

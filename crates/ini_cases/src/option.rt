@@ -1,6 +1,7 @@
 //! The options by which texts are read and written, by their words.
 use crate::token::{Token, unreadable};
 use ini::{Error, EscapePolicy, LineSeparator, ParseOption, WriteOption};
+use ini_text::LoneLine;
 use std::alloc::Global;
 
 /// Every policy.
@@ -74,6 +75,10 @@ fn reading_with(read: ParseOption, word: &str) -> Option<ParseOption> {
         }),
         "rawbackslash" => Some(ParseOption {
             enabled_raw_backslash: true,
+            ..read
+        }),
+        "refusedlines" => Some(ParseOption {
+            line_without_separator: LoneLine::Refused,
             ..read
         }),
         _ => None,

@@ -5,9 +5,10 @@ use crate::token::{Token, text_of, unreadable};
 use ini::{
     Error, EscapePolicy, Ini, LineSeparator, ParseOption, Properties, SectionEntry, WriteOption,
 };
+use ini_text::LoneLine;
 use std::alloc::{AllocError, Global};
 
-// The set of reading options that five bits choose; brackets in names are off.
+// The set of reading options that six bits choose; brackets in names are off.
 fn reading(bits: u8) -> ParseOption {
     ParseOption {
         enabled_quote: bits & 1 != 0,
@@ -16,6 +17,11 @@ fn reading(bits: u8) -> ParseOption {
         enabled_preserve_key_leading_whitespace: bits & 8 != 0,
         enabled_brackets_in_section_names: false,
         enabled_raw_backslash: bits & 16 != 0,
+        line_without_separator: if bits & 32 != 0 {
+            LoneLine::Refused
+        } else {
+            LoneLine::RunsOn
+        },
     }
 }
 
@@ -47,12 +53,12 @@ fn are_equal(left: &Ini, right: &Ini) -> bool {
     others.next().is_none()
 }
 
-/// By how many of thirty-two sets of reading options the document is plain. By each of them its text is to
+/// By how many of sixty-four sets of reading options the document is plain. By each of them its text is to
 /// load back as it.
 pub fn count_plain(alloc: Global, document: &Ini, write: &WriteOption) -> Result<usize, Error> {
     let text = written(alloc, document, write.clone()?)?;
     let mut plain: usize = 0;
-    for bits in 0..32 {
+    for bits in 0..64 {
         let read = reading(bits);
         if document.is_plain(write, read) {
             let back = Ini::load_from_str_opt(alloc, text.as_str(), read)?;

@@ -86,6 +86,7 @@ impl Random {
             "indented",
             "brackets",
             "rawbackslash",
+            "refusedlines",
             "CRLF",
         ] {
             if self.is_even() {

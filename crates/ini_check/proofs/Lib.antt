@@ -4,3 +4,4 @@ pub mod WalkLemmas
 pub mod Worked
 pub mod OneListLemmas
 pub mod MendLemmas
+pub mod LoneLineLemmas

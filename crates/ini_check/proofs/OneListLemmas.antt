@@ -9,20 +9,22 @@ use Rattle.std.specs.declared.alloc.Global.{Global}
 use Rattle.std.specs.declared.borrow.CowStr.{CowStr}
 use Rattle.std.specs.Prelude.{◌||◌, ◌==◌}
 use Rattle.ini.specs.Texts.{Text}
-use Rattle.ini_text.specs.Grammar.CharacterKinds.{BeginsWith, BeginsWithNo, is_blank, is_comment_mark}
+use Rattle.ini_text.specs.Grammar.CharacterKinds.{BeginsWith, BeginsWithNo, backslash, is_blank}
+use Rattle.ini_text.specs.Grammar.CharacterKinds.{is_comment_mark}
 use Rattle.ini_text.specs.Grammar.CharacterKinds.{is_line_end, open_bracket}
 use Rattle.ini_text.specs.Grammar.Elements.{Header, Pair}
 use Rattle.ini_text.specs.Grammar.Keys.{KeyFront, begins_indented_key, begins_key}
 use Rattle.ini_text.specs.Grammar.Places.{ArePlaced, Stretches, pair_source, value_source}
-use Rattle.ini_text.specs.Grammar.Strings.{key_ends}
-use Rattle.ini_text.specs.Inside.ElementReader.{element}
+use Rattle.ini_text.specs.Grammar.Strings.{Str, is_endpoint, key_ends}
+use Rattle.ini_text.specs.Inside.ElementReader.{element, key_string}
 use Rattle.ini_text.specs.Inside.Reading.{Answer, found}
 use Rattle.ini_text.specs.Inside.Scans.{skipped}
-use Rattle.ini_text.specs.Inside.StringReader.{string}
 use Rattle.ini_text.specs.Parsing.Items.{cow_text}
 use Rattle.ini_text.specs.Parsing.Places.{HasPlaces, StandsBetween, gives, stretches_of}
 use Rattle.ini_text.specs.Laws.Plain.{IsPlainPair}
 use Rattle.ini_text.specs.Options.ReadOptions.{backslash_of}
+use Rattle.ini_text.specs.declared.option.LoneLine.{LoneLine}
+use Rattle.ini_text.specs.declared.option.LoneLine.TheVariants.{Refused, RunsOn}
 use Rattle.ini_text.specs.declared.option.ParseOption.{ParseOption}
 use Rattle.ini_text.specs.declared.parser.placed.Content.{Content}
 use Rattle.ini_text.specs.declared.parser.placed.Content.TheVariants as contents
@@ -57,24 +59,31 @@ indented_begins (c ∷ t) begins =
     let x = or_parts (is_blank c || is_line_end c) (c == open_bracket) (not-true _ begins) in
     (or_parts (is_blank c) (is_line_end c) x.0).0
 
+-- no key ends at a backslash
+no_backslash : (line : LoneLine) → is_endpoint (key_ends line) backslash ≡ false
+no_backslash RunsOn = refl
+no_backslash Refused = refl
+
+key_finds : (o : ParseOption) {s r v : List ℕ}
+    → Str (backslash_of o) (key_ends o.line_without_separator) s r v → key_string o (s ++ r) ≡ found v r
+key_finds o str =
+    let line = o.line_without_separator in
+    (string-reads (backslash_of o) (key_ends line) (no_backslash line)).finds str
+
 key_read : {o : ParseOption} {b k x key : List ℕ} {m : ℕ} → KeyFront o b k (m ∷ x) key
-    → (u : List ℕ) × (string (backslash_of o) key_ends (skipped is_blank (k ++ m ∷ x)) ≡ found u (m ∷ x))
-key_read {o} {x = x} {m = m} (KeyFront.unindented {s} {v = v} begins str) = (
-  v,
-  ap (string (backslash_of o) key_ends) (key_begins (s ++ m ∷ x) begins)
-      ∙ (string-reads (backslash_of o) key_ends refl).finds str,
-)
+    → (u : List ℕ) × (key_string o (skipped is_blank (k ++ m ∷ x)) ≡ found u (m ∷ x))
+key_read {o} {x = x} {m = m} (KeyFront.unindented {s} {v = v} begins str) =
+    (v, ap (key_string o) (key_begins (s ++ m ∷ x) begins) ∙ key_finds o str)
 key_read {o} {x = x} {m = m} (KeyFront.indented {w} {s} {v = v} ind begins str) =
     let following : skipped is_blank ((w ++ s) ++ m ∷ x) ≡ s ++ m ∷ x =
     ap (skipped is_blank) (append_assoc w s (m ∷ x))
     ∙ (run-finds is_blank w (s ++ m ∷ x) ind.blank (indented_begins (s ++ m ∷ x) begins)).1 in (
       v,
-      ap (string (backslash_of o) key_ends) following
-          ∙ (string-reads (backslash_of o) key_ends refl).finds str,
+      ap (key_string o) following ∙ key_finds o str,
     )
 
 abbrev reads_key : ParseOption → List ℕ → Answer ℕ
-reads_key o t = string (backslash_of o) key_ends (skipped is_blank t)
+reads_key o t = key_string o (skipped is_blank t)
 
 -- two pairs of one source have one key, separator and source after it
 record IsOnePair (p q : Stretches) : Type 0 where

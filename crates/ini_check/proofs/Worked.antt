@@ -1,7 +1,7 @@
 -- Each trap in a small text, and the nearest text without it.
 use Rattle.std.proofs.Common.{◌≡◌, refl, true, false, [], ◌∷◌}
 use Rattle.std.specs.Prelude.{codes}
-use Rattle.ini_text.specs.Options.ReadOptions.{default_parse_option, without_escapes}
+use Rattle.ini_text.specs.Options.ReadOptions.{default_parse_option, with_raw_backslashes, without_escapes}
 use Rattle.ini_text.specs.declared.option.ParseOption.{ParseOption}
 use Rattle.ini_check.specs.Traps.Keys.{comment_runs_on, has_escape, has_key_escape, has_line_end, is_empty}
 use Rattle.ini_check.specs.Traps.Keys.{lower, mark_begins_key, has_equals, runs_on}
@@ -14,9 +14,6 @@ use Rattle.ini_check.specs.declared.warning.Trap.TheVariants.{PairInValue, TextA
 
 abbrev without_quotes : ParseOption
 without_quotes = record default_parse_option { enabled_quote = false }
-
-abbrev with_raw_backslashes : ParseOption
-with_raw_backslashes = record without_escapes { enabled_raw_backslash = true }
 
 bracket : has_line_end (codes "[server\nport=80\n[client]") ≡ true
 bracket = refl

@@ -1,5 +1,13 @@
 //! Laws of the warnings, each the contract of a function that does nothing. They speak of definitions alone.
-ghost use Rattle.std.specs.Prelude.{◌≡◌, List, chars};
+ghost use Rattle.std.specs.Prelude.{◌≡◌, [], List, chars, false};
+ghost use Rattle.ini.specs.Texts.{Text};
+ghost use Rattle.ini_text.specs.Grammar.Elements.{Element};
+ghost use Rattle.ini_text.specs.Grammar.Keys.{KeyFront};
+ghost use Rattle.ini_text.specs.Options.ReadOptions.{backslash_of};
+ghost use Rattle.ini_text.specs.declared.option.LoneLine.TheVariants.{Refused};
+ghost use Rattle.ini_text.specs.declared.option.ParseOption.{ParseOption};
+ghost use Rattle.ini_check.specs.Traps.Keys.{has_bare_line_end};
+ghost use Rattle.ini_check.specs.Traps.LostLines.{drops_line};
 ghost use Rattle.ini_check.specs.Warnings.{AreWarningsOf};
 ghost use Rattle.ini_check.specs.declared.warning.Warning.{Warning};
 
@@ -9,4 +17,12 @@ use ini_text::ParseOption;
 pub fn one_list(text: &str, read: ParseOption)
     ensures { (ws vs : List Warning) → AreWarningsOf read (chars text.now) ws
         → AreWarningsOf read (chars text.now) vs → ws ≡ vs }
+{}
+
+/// Where a line without separator is refused, backslashes alone join a key's lines, and no line is dropped.
+pub fn keys_keep_to_their_lines()
+    ensures joined { (o : ParseOption) (b k r key : Text) → o.line_without_separator ≡ Refused
+        → KeyFront o b k r key → has_bare_line_end (backslash_of o) false k ≡ false }
+    ensures dropped { (o : ParseOption) (b s r : Text) → o.line_without_separator ≡ Refused
+        → Element o b s r [] → drops_line s ≡ false }
 {}

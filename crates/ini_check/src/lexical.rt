@@ -1,8 +1,6 @@
 //! Where a character of a raw value stands: in quotes, after them, in the plain part, or after a backslash that
 //! takes it along.
 ghost use Rattle.std.specs.Prelude.{◌≡◌};
-ghost use Rattle.ini_text.specs.Options.Backslashes.{begins_escape};
-ghost use Rattle.ini_text.specs.Options.ReadOptions.{backslash_of};
 ghost use Rattle.ini_check.specs.Traps.LexicalStates.{after_outside, after_quoted, after_white, is_outside};
 ghost use Rattle.ini_check.specs.Traps.LexicalStates.{may_open, next_state};
 
@@ -85,7 +83,7 @@ fn after_outside(read: ParseOption, state: LexicalState, c: char) -> LexicalStat
 {
     if is_line_end(c) {
         LexicalState::LineFront
-    } else if takes_next(read, c) {
+    } else if read.begins_escape(c) {
         LexicalState::PlainEscape
     } else if read.enabled_quote && state.may_open() && is_quote_mark(c) {
         LexicalState::Quoted(c)
@@ -100,18 +98,11 @@ fn after_outside(read: ParseOption, state: LexicalState, c: char) -> LexicalStat
 fn after_quoted(read: ParseOption, mark: char, c: char) -> LexicalState
     ensures { result ≡ after_quoted read mark c }
 {
-    if takes_next(read, c) {
+    if read.begins_escape(c) {
         LexicalState::QuotedEscape(mark)
     } else if c == mark {
         LexicalState::AfterQuote
     } else {
         LexicalState::Quoted(mark)
     }
-}
-
-/// Whether the character is a backslash that takes the next one along.
-pub(crate) fn takes_next(read: ParseOption, c: char) -> bool
-    ensures { result ≡ begins_escape (backslash_of read) c }
-{
-    c == '\\' && read.has_special_backslash()
 }

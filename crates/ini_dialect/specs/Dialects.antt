@@ -2,7 +2,8 @@
 use Rattle.std.specs.Prelude.{ℕ, List, [], ◌∷◌, codes, true, false, Option}
 use Rattle.std.specs.Map.{lookup}
 use Rattle.std.specs.Str.{bytes_eq}
-use Rattle.ini_text.specs.Options.ReadOptions.{default_parse_option, without_escapes}
+use Rattle.ini_text.specs.Options.ReadOptions.{default_parse_option, with_raw_backslashes, without_escapes}
+use Rattle.ini_text.specs.declared.option.LoneLine.TheVariants.{Refused}
 use Rattle.ini_text.specs.declared.option.ParseOption.{ParseOption}
 use Rattle.ini_text.specs.declared.write.option.LineSeparator.{LineSeparator}
 use Rattle.ini_text.specs.declared.write.option.LineSeparator.TheVariants.{SystemDefault, CRLF}
@@ -54,13 +55,17 @@ with_crlf p = record p { line_separator = CRLF }
 abbrev pub standard : ParseOption
 standard = default_parse_option
 
+-- a line without separator is refused
+abbrev pub strict : ParseOption
+strict = record standard { line_without_separator = Refused }
+
 -- no escapes; before a line's end a backslash joins lines all the same
 abbrev pub raw : ParseOption
 raw = without_escapes
 
 -- a backslash is a character like any other, before a line's end too
 abbrev pub literal : ParseOption
-literal = record raw { enabled_raw_backslash = true }
+literal = with_raw_backslashes
 
 -- no quotes
 abbrev pub unquoted : ParseOption
@@ -128,6 +133,7 @@ presets =
     ∷ (codes "uwsgi", preset standard Nothing (codes " = ") last)
     ∷ (codes "xrdp", preset standard Nothing (codes "=") last)
     ∷ (codes "openttd", preset unquoted Nothing (codes " = ") first)
+    ∷ (codes "strict", preset strict Basics (codes "=") first)
     ∷ []
 
 -- what a name stands for

@@ -5,7 +5,7 @@ ghost use Rattle.std.specs.Option.{option_map};
 ghost use Rattle.ini_dialect.specs.Dialects.{dialect_of, named_shown, presets, shown};
 
 use crate::rule::{CaseRule, Lookup, SectionRule, ValueRule};
-use ini_text::{EscapePolicy, LineSeparator, ParseOption, WriteOption};
+use ini_text::{EscapePolicy, LineSeparator, LoneLine, ParseOption, WriteOption};
 
 /// How the files of a program are read, written and looked up.
 #[derive(Clone, Drop)]
@@ -59,6 +59,13 @@ const STANDARD: ParseOption = ParseOption {
     enabled_preserve_key_leading_whitespace: false,
     enabled_brackets_in_section_names: false,
     enabled_raw_backslash: false,
+    line_without_separator: LoneLine::RunsOn,
+};
+
+// A line without separator is refused.
+const STRICT: ParseOption = ParseOption {
+    line_without_separator: LoneLine::Refused,
+    ..STANDARD
 };
 
 // No escapes; before a line's end a backslash joins lines all the same.
@@ -158,7 +165,7 @@ macro_rules! preset {
     };
 }
 
-static DIALECTS: [NamedDialect; 25] = [
+static DIALECTS: [NamedDialect; 26] = [
     preset!(
         "crate",
         STANDARD,
@@ -276,4 +283,12 @@ static DIALECTS: [NamedDialect; 25] = [
     preset!("uwsgi", STANDARD, Nothing, " = ", LAST, "uwsgi.ini"),
     preset!("xrdp", STANDARD, Nothing, "=", LAST, "xrdp.ini, sesman.ini"),
     preset!("openttd", UNQUOTED, Nothing, " = ", FIRST, "openttd.cfg"),
+    preset!(
+        "strict",
+        STRICT,
+        Basics,
+        "=",
+        FIRST,
+        "the crate's defaults, and a line without separator is refused"
+    ),
 ];

@@ -331,7 +331,7 @@ fn a_dialect_writes_as_its_program_reads(rt: HostRuntime) {
 
 #[test]
 fn other_names_are_none(rt: HostRuntime) {
-    for name in ["", "Git", "git ", "ini", "strict"] {
+    for name in ["", "Git", "git ", "ini", "Strict"] {
         assert!(rt; Dialect::of_name(name).is_none(), "{name:?}");
     }
     for named in dialects() {
@@ -361,6 +361,9 @@ fn a_text_is_guessed_by_its_warnings(rt: HostRuntime) {
     for (text, name, want) in [
         ("[a]\nk = v\n", "crate", Some(0)),
         ("[a]\nk = v\n", "openttd", Some(0)),
+        ("[a]\nk = v\n", "strict", Some(0)),
+        ("one\ntwo = 2\n", "crate", Some(1)),
+        ("one\ntwo = 2\n", "strict", None),
         ("path = C:\\temp\n", "crate", Some(1)),
         ("path = C:\\temp\n", "samba", Some(0)),
         ("k = \"v\n", "crate", None),
@@ -370,7 +373,7 @@ fn a_text_is_guessed_by_its_warnings(rt: HostRuntime) {
         assert!(rt; found == want, "{text:?} as {name}: {found:?}");
     }
     let found = guesses(rt.alloc(), "path = C:\\temp\n").expect(&rt, "memory");
-    assert!(rt; found.len() == 25 && found[0].place == 2 && found[0].warnings == 0);
+    assert!(rt; found.len() == 26 && found[0].place == 2 && found[0].warnings == 0);
 }
 
 #[test]

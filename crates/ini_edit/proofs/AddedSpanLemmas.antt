@@ -2,21 +2,17 @@
 use Rattle.std.proofs.Common.{◌≡◌, ◌≢◌, ◌∙◌, ◌≤◌, arith, length, ℕ, Bool, true, false, cond, List, []}
 use Rattle.std.proofs.Common.{◌∷◌, ◌++◌}
 use Rattle.std.proofs.Common.{Option, ap, append_assoc, append-nil, refl, subst, sym}
-use Rattle.std.proofs.lemmas.Bool.{false≢true}
-use Rattle.ini_text.specs.Grammar.CharacterKinds.{is_line_feed, line_feed}
-use Rattle.ini_text.specs.Grammar.Elements.{Element, Given, Header}
+use Rattle.ini_text.specs.Grammar.CharacterKinds.{BeginsWith, is_line_end, is_line_feed, line_feed}
+use Rattle.ini_text.specs.Grammar.Elements.{Element, Header}
 use Rattle.ini_text.specs.Grammar.Pieces.{pieces_text}
 use Rattle.ini_text.specs.Grammar.Places.{Stretches, pair_source, value_source}
 use Rattle.ini_text.specs.Grammar.Positions.{last_or}
-use Rattle.ini_text.specs.Grammar.Strings.{Closes, Str, bracketed_name_ends}
 use Rattle.ini_text.specs.Laws.PieceLaws.{BeginAlike}
-use Rattle.ini_text.specs.Options.ReadOptions.{backslash_of}
 use Rattle.ini_text.specs.Options.WriteOptions.{line_end}
 use Rattle.ini_text.specs.declared.option.ParseOption.{ParseOption}
 use Rattle.ini_text.specs.declared.write.option.LineSeparator.{LineSeparator}
 use Rattle.ini_text.specs.declared.write.option.LineSeparator.TheVariants.{CR, CRLF, SystemDefault}
 use Rattle.ini_text.proofs.GrammarLemmas.ItemLemmas.{element-some}
-use Rattle.ini_text.proofs.LawLemmas.OneAheadLemmas.{Alike, Str-alike}
 use Rattle.ini.specs.Texts.{Text}
 use Rattle.ini_edit.specs.Inside.InPlace.{AreInPlace}
 use Rattle.ini_edit.specs.Inside.Spans.{AreSpans, IsGap, IsPair, IsSpan, Span, gap, opening, pair}
@@ -25,7 +21,9 @@ use Rattle.ini_edit.specs.Sources.{joined}
 use Rattle.ini_edit.proofs.EndedGapLemmas.{feed_gap, gap_stands, pieces_ended}
 use Rattle.ini_edit.proofs.GapLemmas.{gap_join}
 use Rattle.ini_edit.proofs.GapPartLemmas.{gap_nothing}
+use Rattle.ini_edit.proofs.HeaderLemmas.{header_closed}
 use Rattle.ini_edit.proofs.InPlaceLemmas.{in_place-before, in_place-join, in_place-split}
+use Rattle.ini_edit.proofs.QuietLemmas.{as_header}
 use Rattle.ini_edit.proofs.SectionPlaceLemmas.{IsCutFor}
 use Rattle.ini_edit.proofs.SectionTakenLemmas.{IsFeed, key_starts, same_start}
 use Rattle.ini_edit.proofs.SpanLemmas.{spans_local}
@@ -45,9 +43,9 @@ pub gap_either : {o : ParseOption} {c : ℕ} {l : Text} (b : Bool) (r : Text) �
 gap_either true r feed = gap_nothing
 gap_either false r feed = feed_gap feed
 
-feed_closes : {l : Text} (y : Text) → IsFeed l → Closes bracketed_name_ends (l ++ y)
-feed_closes y IsFeed.lf = refl
-feed_closes y IsFeed.cr_lf = refl
+feed_begins : {l : Text} (y : Text) → IsFeed l → BeginsWith is_line_end (l ++ y)
+feed_begins y IsFeed.lf = refl
+feed_begins y IsFeed.cr_lf = refl
 
 module _ {o : ParseOption} where
   -- after spans that stay, another gap and others
@@ -98,28 +96,6 @@ module _ {o : ParseOption} where
           (later (last_or (last_or c (pair_source q)) new)))
 
   -- what opens a section, before a line end; and what opens none, before any text
-  opening_ended : {b s y name l : Text} {gives : List Given} (x : Text) → IsFeed l → gives ≡ Header name ∷ []
-      → Element o b s y gives → Element o b s (l ++ x) gives
-  opening_ended {name = name} x feed is (Element.gap g) =
-      absurd (let no : [] ≡ Header name ∷ [] = is in cc)
-  opening_ended {name = name} x feed is (Element.comment s one mark all) =
-      absurd (let no : [] ≡ Header name ∷ [] = is in cc)
-  opening_ended {name = name} x feed is (Element.last_comment one mark all) =
-      absurd (let no : [] ≡ Header name ∷ [] = is in cc)
-  opening_ended x feed is (Element.header off str) = Element.header off (Str-alike Alike.same str)
-  opening_ended {l = l} x feed is (Element.bracketed_header on str i) =
-      Element.bracketed_header on (closed str) i
-    where
-      closed : {s r v : Text} → Str (backslash_of o) bracketed_name_ends s r v
-          → Str (backslash_of o) bracketed_name_ends s (l ++ x) v
-      closed (Str.closed row h) = Str.closed row (feed_closes x feed)
-      closed (Str.lone special row h) = absurd (false≢true h)
-  opening_ended x feed is (Element.pair front some sep given) = absurd (cc (is))
-  opening_ended {name = name} x feed is (Element.dropped_blanks i) =
-      absurd (let no : [] ≡ Header name ∷ [] = is in cc)
-  opening_ended {name = name} x feed is (Element.dropped_key i begins stops) =
-      absurd (let no : [] ≡ Header name ∷ [] = is in cc)
-
   header_ended : {c : ℕ} {name : Option Text} {s y : Text} (x : Text)
       → (s ≢ [] → (l : Text) × ((z : Text) × (IsFeed l × (x ≡ l ++ z))))
       → IsSpan o c (opening name s) y → IsSpan o c (opening name s) x
@@ -127,7 +103,7 @@ module _ {o : ParseOption} where
   header_ended {c} x feed (IsSpan.header {name = name} {s = s} e) =
       let h = feed (source_some s (element-some e)) in
       IsSpan.header (subst (λ x. Element o (c ∷ []) s x (Header name ∷ [])) (sym h.1.1.1)
-      (opening_ended h.1.0 h.1.1.0 refl e))
+      (header_closed (feed_begins h.1.0 h.1.1.0) (as_header e)))
 
   pub spans_headed : (ys : List Span) (name : Option Text) (s y x : Text) → (s ≡ [] → ys ≡ [])
       → (s ≢ [] → (l : Text) × ((z : Text) × (IsFeed l × (x ≡ l ++ z))))

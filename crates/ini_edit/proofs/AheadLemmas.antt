@@ -16,7 +16,7 @@ use Rattle.ini_text.specs.Grammar.Positions.{last_or, is_column_one}
 use Rattle.ini_text.specs.Grammar.Strings.{Closes, Str, bracketed_name_ends, plain_ends}
 use Rattle.ini_text.specs.Grammar.Values.{LineEnd, MoreLines, Value}
 use Rattle.ini_text.specs.Grammar.Keys.{KeyFront, begins_key}
-use Rattle.ini_text.specs.Grammar.Elements.{Given, Gap, Element}
+use Rattle.ini_text.specs.Grammar.Elements.{Given, Header, Element}
 use Rattle.ini_text.specs.Grammar.Texts.{Reads}
 use Rattle.ini_text.proofs.GrammarLemmas.KindLemmas.{line_end_no_blank}
 use Rattle.ini_text.proofs.LawLemmas.OneAheadLemmas.{Alike, Element-alike, EndedLine-before, KeyFront-alike}
@@ -24,6 +24,7 @@ use Rattle.ini_text.proofs.LawLemmas.OneAheadLemmas.{Reads-front, Str-alike}
 use Rattle.ini_text.proofs.PlainLemmas.PlainLineLemmas.{column_one_after}
 use Rattle.ini_text.proofs.PlainLemmas.PlainTrimLemmas.{line_end_is_white}
 use Rattle.ini_edit.specs.Places.{Follows}
+use Rattle.ini_edit.proofs.QuietLemmas.{IsHeader, Quiet, Shape, as_quiet, free, shape}
 use Rattle.ini_edit.proofs.ValueLemmas.{closes_line_end, line_closes}
 
 -- What stands after the front c: no line end; and a bracket in column one alone, since blanks before one
@@ -68,6 +69,34 @@ closes_no_line [] begins h = absurd (false≢true (sym begins))
 closes_no_line (c ∷ y) begins h =
     absurd (both_ways (is_line_end c) (not-true (is_line_end c) begins) (closes_line_end c h))
 
+y_some : {c y : List ℕ} → FollowsFront c y → y ≢ []
+y_some f e = false≢true (sym (subst (BeginsWith (λ c. not (is_line_end c))) e f.some))
+
+-- what gives nothing, and a header, stand before any other text too
+quiet_before : {o : ParseOption} {b s y : List ℕ} (x : List ℕ) → FollowsFront (b ++ s) y → Quiet o b s y
+    → Element o b s x []
+quiet_before x f (Quiet.anywhere e) = free x e
+quiet_before {b = b} x f (Quiet.before_header {w = w} i) = elim f.bracket [
+  | inl apart ↦ absurd (false≢true (sym apart))
+  | inr one ↦ absurd (blank_no_column b w i.some i.blank one)
+]
+quiet_before x f (Quiet.at_end tail) = absurd (y_some f refl)
+
+pub nothing_before : {o : ParseOption} {b s y : List ℕ} {gives : List Given} (x : List ℕ)
+    → FollowsFront (b ++ s) y → gives ≡ [] → Element o b s y gives → Element o b s x gives
+nothing_before {o} {b} {s} x f none e =
+    subst (Element o b s x) (sym none) (quiet_before x f (as_quiet e none))
+
+pub header_before : {o : ParseOption} {b c s y name : List ℕ} (x : List ℕ) → FollowsFront c y
+    → IsHeader o s y name → Element o b s x (Header name ∷ [])
+header_before x f (IsHeader.plain off str) = Element.header off (Str-alike Alike.same str)
+header_before {y = y} x f (IsHeader.bracketed on str i) = at y f str
+  where
+    at : {X : Type 0} {c s v : List ℕ} {e : Backslash} (y : List ℕ) → FollowsFront c y
+        → Str e bracketed_name_ends s y v → X
+    at [] f str = absurd (y_some f refl)
+    at (d ∷ y) f (Str.closed row h) = closes_no_line (d ∷ y) f.some h
+
 module _ {o : ParseOption} {x : List ℕ} (follows : Follows o x) where
   module _ (on : o.enabled_indented_mutiline_value ≡ true) where
     MoreLines-before : {t y v : List ℕ} → y ≢ [] → MoreLines o t y v → MoreLines o t x v
@@ -92,9 +121,6 @@ module _ {o : ParseOption} {x : List ℕ} (follows : Follows o x) where
       (record { lead = lead; line = ln; end = le }) in
       Value.lines on n.lead n.line n.end (MoreLines-before on some m)
 
-  pub y_some : {c y : List ℕ} → FollowsFront c y → y ≢ []
-  y_some f e = false≢true (sym (subst (BeginsWith (λ c. not (is_line_end c))) e f.some))
-
   pub value_before : {c s y v : List ℕ} → FollowsFront c y → Value o s y v → Value o s x v
   value_before {y = y} f (Value.one_line off lead ln) = closes_no_line y f.some (line_closes ln)
   value_before f (Value.to_end on lead ln) = absurd (y_some f refl)
@@ -107,35 +133,16 @@ module _ {o : ParseOption} {x : List ℕ} (follows : Follows o x) where
       TrailingLines.lines on (LineEnd-before t x _ (follows.no_line_end on) end)
       (MoreLines-before on (y_some f) more) all
 
-  pub no_bracketed : {X : Type 0} {c : List ℕ} {e : Backslash} {s y v : List ℕ} → FollowsFront c y
-      → Str e bracketed_name_ends s y v → X
-  no_bracketed {y = y} f (Str.closed row h) = at y f.some h
-    where
-      at : {X : Type 0} (y : List ℕ) → BeginsWith (λ c. not (is_line_end c)) y
-          → Closes bracketed_name_ends y → X
-      at [] begins h = absurd (false≢true h)
-      at (c ∷ y) begins h = closes_no_line (c ∷ y) begins h
-  no_bracketed f (Str.lone special row h) = absurd (false≢true h)
-
-  Gap-before : {b s y : List ℕ} → FollowsFront (b ++ s) y → Gap b s y → Gap b s x
-  Gap-before f (Gap.blank_line c i h) = Gap.blank_line c i h
-  Gap-before {b} f (Gap.before_header {w = w} i) = elim f.bracket [
-    | inl apart ↦ absurd (false≢true (sym apart))
-    | inr one ↦ absurd (blank_no_column b w i.some i.blank one)
-  ]
-  Gap-before f (Gap.white h n) = Gap.white h n
-
   pub Element-before : {b s y : List ℕ} {gives : List Given} → FollowsFront (b ++ s) y → Element o b s y gives
       → Element o b s x gives
-  Element-before f (Element.gap g) = Element.gap (Gap-before f g)
-  Element-before f (Element.comment s one mark all) = Element.comment s one mark all
-  Element-before f (Element.last_comment one mark all) = absurd (y_some f refl)
-  Element-before f (Element.header off str) = Element.header off (Str-alike Alike.same str)
-  Element-before f (Element.bracketed_header on str i) = no_bracketed f str
-  Element-before f (Element.pair front some sep given) =
-      Element.pair (KeyFront-alike Alike.same front) some sep (value_before f given)
-  Element-before f (Element.dropped_blanks i) = absurd (y_some f refl)
-  Element-before f (Element.dropped_key i begins_key stops) = absurd (y_some f refl)
+  Element-before {b = b} {y = y} f e = at f (shape e)
+    where
+      at : {s : List ℕ} {gives : List Given} → FollowsFront (b ++ s) y → Shape o b s y gives
+          → Element o b s x gives
+      at f (Shape.quiet q) = quiet_before x f q
+      at f (Shape.header h) = header_before x f h
+      at f (Shape.pair front some sep given) =
+          Element.pair (KeyFront-alike Alike.same front) some sep (value_before f given)
 
   -- elements up to the front c, before x in place of y, and then further elements
   pub Reads-before_line : {T b c d : List ℕ} {items others : List Given} (y : List ℕ) → FollowsFront c y

@@ -2,8 +2,8 @@
 -- follows.
 use Rattle.std.proofs.Common.{◌≡◌, ◌≢◌, ◌∙◌, ℕ, Bool, true, false, eqb, [], ◌∷◌, ◌++◌, ap}
 use Rattle.std.proofs.Common.{append-nil, if◌then◌else◌, not, refl, sym}
-use Rattle.std.proofs.lemmas.Bool.{and_parts, both_ways, or_right}
-use Rattle.ini_text.specs.Grammar.CharacterKinds.{backslash, is_inline_white, line_feed}
+use Rattle.std.proofs.lemmas.Bool.{both_ways, or_right}
+use Rattle.ini_text.specs.Grammar.CharacterKinds.{is_inline_white, line_feed}
 use Rattle.ini_text.specs.Grammar.Places.{LastLine, OwnLines, SpaceAfter, ends_bare}
 use Rattle.ini_text.specs.Grammar.Positions.{last_or}
 use Rattle.ini_text.specs.Grammar.Values.{LineEnd}
@@ -60,7 +60,7 @@ pub escape_inside : (o : ParseOption) (t : Text) → ending o t ≡ Ending.escap
 escape_inside o [] h = absurd (let no : Ending.line ≡ Ending.escape = h in cc)
 escape_inside o (c ∷ t) h = h
 
--- its last character is a backslash
+-- its last character is a backslash that takes what follows
 next_escape : (x y : Bool) → (if x then Ending.escape else (if y then Ending.line else Ending.inside))
     ≡ Ending.escape → x ≡ true
 next_escape true y h = refl
@@ -68,30 +68,29 @@ next_escape false true h = absurd (let no : Ending.line ≡ Ending.escape = h in
 next_escape false false h = absurd (let no : Ending.inside ≡ Ending.escape = h in cc)
 
 escape_next : (o : ParseOption) (e : Ending) (c : ℕ) → next_ending o e c ≡ Ending.escape
-    → eqb c backslash ≡ true
+    → begins_escape (backslash_of o) c ≡ true
 escape_next o Ending.escape c h = absurd (let no : Ending.inside ≡ Ending.escape = h in cc)
-escape_next o Ending.inside c h =
-    (and_parts (eqb c backslash) _ (next_escape (begins_escape (backslash_of o) c) (eqb c line_feed) h)).0
-escape_next o Ending.line c h =
-    (and_parts (eqb c backslash) _ (next_escape (begins_escape (backslash_of o) c) (eqb c line_feed) h)).0
+escape_next o Ending.inside c h = next_escape (begins_escape (backslash_of o) c) (eqb c line_feed) h
+escape_next o Ending.line c h = next_escape (begins_escape (backslash_of o) c) (eqb c line_feed) h
 
 escape_last : (o : ParseOption) (e : Ending) (d : ℕ) (t : Text)
-    → (e ≡ Ending.escape → eqb d backslash ≡ true)
-    → ending_from o e t ≡ Ending.escape → eqb (last_or d t) backslash ≡ true
+    → (e ≡ Ending.escape → begins_escape (backslash_of o) d ≡ true)
+    → ending_from o e t ≡ Ending.escape → begins_escape (backslash_of o) (last_or d t) ≡ true
 escape_last o e d [] was h = was h
 escape_last o e d (c ∷ t) was h = escape_last o (next_ending o e c) c t (escape_next o e c) h
 
 -- no white space stands after a raw value that ends so
-pub closed_space : (o : ParseOption) {raw_value space_after : Text} → SpaceAfter raw_value space_after
+pub closed_space : (o : ParseOption) {raw_value space_after : Text}
+    → SpaceAfter (backslash_of o) raw_value space_after
     → ending o raw_value ≡ Ending.escape → space_after ≡ []
 closed_space o (SpaceAfter.bare {raw_value} bare white) h =
-    let slash : eqb (last_or line_feed raw_value) backslash ≡ true =
+    let slash : begins_escape (backslash_of o) (last_or line_feed raw_value) ≡ true =
     escape_last o Ending.line line_feed raw_value (λ e. absurd (let no : Ending.line ≡ Ending.escape = e
     in cc)) h
     in
-    absurd (both_ways (ends_bare raw_value)
+    absurd (both_ways (ends_bare (backslash_of o) raw_value)
     (ap not (or_right (is_inline_white (last_or line_feed raw_value)) _ slash)) bare)
-closed_space o (SpaceAfter.escaped front white all) h = refl
+closed_space o (SpaceAfter.escaped front white special all) h = refl
 
 -- no value's line that is read before a line end ends so
 pub source_closed : {o : ParseOption} {source value : Text} → IsSourceOf o source value

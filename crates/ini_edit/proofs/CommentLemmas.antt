@@ -3,16 +3,16 @@ use Rattle.std.proofs.Common.{◌≡◌, ℕ, Bool, true, false, not, ◌||◌, 
 use Rattle.std.proofs.Common.{subst, append_assoc, append-nil}
 use Rattle.std.proofs.lemmas.Bool.{both_ways, false≢true, false_from_ne_true, or_left, or_right}
 use Rattle.std.specs.Char.{is_whitespace}
-use Rattle.std.specs.List.{list_all}
-use Rattle.ini_text.specs.Grammar.CharacterKinds.{line_feed, is_blank, is_comment_mark}
-use Rattle.ini_text.specs.Grammar.CharacterKinds.{is_line_feed, BeginsWith}
-use Rattle.ini_text.specs.Grammar.Elements.{Given, Gap, Element}
+use Rattle.ini_text.specs.Grammar.CharacterKinds.{is_blank, is_comment_mark}
+use Rattle.ini_text.specs.Grammar.CharacterKinds.{BeginsWith}
+use Rattle.ini_text.specs.Grammar.Elements.{Given, Element}
 use Rattle.ini_text.specs.Grammar.Keys.{Indentation, KeyFront, begins_key}
 use Rattle.ini_text.specs.Grammar.Positions.{is_column_one}
 use Rattle.ini_text.specs.Inside.PlainTests.{begins}
 use Rattle.ini_text.specs.declared.option.ParseOption.{ParseOption}
 use Rattle.ini_text.proofs.GrammarLemmas.KindLemmas.{comment_mark-apart}
 use Rattle.ini.specs.Texts.{Text}
+use Rattle.ini_edit.proofs.QuietLemmas.{IsComment, IsHeader, QuietFront, Shape, quiet_front, shape}
 
 -- no blank, no white space and no key begins as a comment does
 no_mark_blank : {X : Type 0} (c : ℕ) → is_comment_mark c ≡ true → is_blank c ≡ true → X
@@ -46,31 +46,26 @@ pub begins_front : (test : ℕ → Bool) (s r : Text) → BeginsWith test s → 
 begins_front test [] r h = absurd (false≢true (sym h))
 begins_front test (c ∷ s) r h = h
 
--- a comment's source after the front b, before r, and what it gives
-pub data IsComment (b : Text) : Text → Text → List Given → Type 0 where
-  whole : {m : ℕ} {r : Text} (s : Text) → is_column_one b ≡ true → is_comment_mark m ≡ true
-      → list_all (λ c. not (is_line_feed c)) s ≡ true → IsComment b (m ∷ (s ++ line_feed ∷ [])) r []
-  last : {m : ℕ} {s : Text} → is_column_one b ≡ true → is_comment_mark m ≡ true
-      → list_all (λ c. not (is_line_feed c)) s ≡ true → IsComment b (m ∷ s) [] []
+front_comment : {b s r : Text} → QuietFront b s r → BeginsWith is_comment_mark (s ++ r)
+    → IsComment b s r []
+front_comment {r = r} (QuietFront.blanks {w = w} t i) m =
+    no_indent (t ++ r) i (subst (BeginsWith is_comment_mark) (append_assoc w t r) m)
+front_comment (QuietFront.white {c = c} q n) m =
+    absurd (both_ways (is_whitespace c) (comment_mark-apart c m).1 q)
+front_comment (QuietFront.comment one mark is) m = is
 
 module _ {o : ParseOption} {b : Text} where
   pub is_comment : {s r : Text} {gives : List Given} → BeginsWith is_comment_mark (s ++ r)
-      → Element o b s r gives
-      → IsComment b s r gives
-  is_comment {r = r} m (Element.gap (Gap.blank_line {w = w} d i q)) =
-      no_indent (d ∷ r) i (subst (BeginsWith is_comment_mark) (append_assoc w (d ∷ []) r) m)
-  is_comment {r = r} m (Element.gap (Gap.before_header i)) = no_indent r i m
-  is_comment m (Element.gap (Gap.white {c = d} q n)) =
-      absurd (both_ways (is_whitespace d) (comment_mark-apart d m).1 q)
-  is_comment m (Element.comment s one mark all) = IsComment.whole s one mark all
-  is_comment m (Element.last_comment one mark all) = IsComment.last one mark all
-  is_comment m (Element.header off str) = absurd (false≢true m)
-  is_comment m (Element.bracketed_header on str i) = absurd (false≢true m)
-  is_comment {r = r} m (Element.pair {k = k} {s = s} {m = x} front some sep value) =
-      no_key front (subst (BeginsWith is_comment_mark) (append_assoc k (x ∷ s) r) m)
-  is_comment {r = r} m (Element.dropped_blanks i) = no_indent r i m
-  is_comment {r = r} m (Element.dropped_key {w = w} {s = s} i begins stops) =
-      no_indent (s ++ r) i (subst (BeginsWith is_comment_mark) (append_assoc w s r) m)
+      → Element o b s r gives → IsComment b s r gives
+  is_comment m e = at (shape e) m
+    where
+      at : {s r : Text} {gives : List Given} → Shape o b s r gives → BeginsWith is_comment_mark (s ++ r)
+          → IsComment b s r gives
+      at (Shape.quiet q) m = front_comment (quiet_front q) m
+      at (Shape.header (IsHeader.plain off str)) m = absurd (false≢true m)
+      at (Shape.header (IsHeader.bracketed on str i)) m = absurd (false≢true m)
+      at {r = r} (Shape.pair {k = k} {s = s} {m = x} front some sep value) m =
+          no_key front (subst (BeginsWith is_comment_mark) (append_assoc k (x ∷ s) r) m)
 
   pub marked_comment : {s r : Text} {gives : List Given} → BeginsWith is_comment_mark s
       → Element o b s r gives

@@ -20,14 +20,15 @@ use Rattle.ini_edit.specs.Inside.InPlace.{AreInPlace}
 use Rattle.ini_edit.specs.Inside.Spans.{AreSpans, IsGap, IsPair, IsSpan, Span, gap, opening, pair}
 use Rattle.ini_edit.specs.Inside.Spans.{span_source}
 use Rattle.ini_edit.specs.Sources.{joined}
-use Rattle.ini_edit.proofs.AheadLemmas.{value_follows}
+use Rattle.ini_edit.proofs.AheadLemmas.{key_follows, value_follows}
 use Rattle.ini_edit.proofs.BlankLineLemmas.{AreBlank, line_last, trailing_ends}
 use Rattle.ini_edit.proofs.DeletedLinesLemmas.{staying, staying_column, staying_gap, staying_lines}
-use Rattle.ini_edit.proofs.GapLemmas.{gap_ahead, gap_join, gap_like, opening_ahead, spans_column}
+use Rattle.ini_edit.proofs.GapLemmas.{gap_join, gap_like, spans_column}
 use Rattle.ini_edit.proofs.InPlaceLemmas.{Agree-after, in_place-before, in_place-exchanged, in_place-join}
 use Rattle.ini_edit.proofs.InPlaceLemmas.{in_place-split, joined-append}
 use Rattle.ini_edit.proofs.SourceDeleteLemmas.{StandsBefore, pair_and_rest, pair_to_gap}
 use Rattle.ini_edit.proofs.SourceSetLemmas.{before_tail, with_tail}
+use Rattle.ini_edit.proofs.SpanFrontLemmas.{gap_free, opening_ahead}
 use Rattle.ini_edit.proofs.SpanLemmas.{span_before, spans_local}
 use Rattle.ini_edit.proofs.TrailingLemmas.{own_lengthened, trailing_lengthened, value_lengthened}
 
@@ -125,8 +126,8 @@ begin_there (d ∷ a) r x some = BeginAlike.character
 module _ {o : ParseOption} where
   gap_alone : {c : ℕ} {a k r key x : Text} → KeyFront o (last_or c a ∷ []) k r key
       → AreSpans o c (gap a ∷ []) (k ++ r) → AreSpans o c (gap a ∷ []) x
-  gap_alone front (AreInPlace.more (IsSpan.is_gap g) AreInPlace.none) =
-      AreInPlace.more (IsSpan.is_gap (gap_ahead front g)) AreInPlace.none
+  gap_alone {r = r} {x = x} front (AreInPlace.more (IsSpan.is_gap g) AreInPlace.none) =
+      AreInPlace.more (IsSpan.is_gap (gap_free x (key_follows r front) g)) AreInPlace.none
 
   pub gap_stands : (xs : List Span) (a : Text) → a ≢ [] → StandsBefore o (xs ++ gap a ∷ [])
   gap_stands xs a some k r key x front h =
@@ -138,7 +139,7 @@ module _ {o : ParseOption} where
   opening_stands : {c : ℕ} {name : Option Text} {s k r key : Text} (a x : Text)
       → KeyFront o (last_or (last_or c s) a ∷ []) k r key → IsSpan o c (opening name s) (a ++ (k ++ r))
       → IsSpan o c (opening name s) (a ++ x)
-  opening_stands [] x front h = opening_ahead front h
+  opening_stands {r = r} [] x front h = opening_ahead x (key_follows r front) h
   opening_stands (d ∷ a) x front h = span_before BeginAlike.character h
 
   -- nothing stands before a section of no name, and any other begins with its header

@@ -9,7 +9,7 @@ use Rattle.std.specs.Char.{is_whitespace}
 use Rattle.std.specs.List.{list_all}
 use Rattle.ini_text.specs.Grammar.CharacterKinds.{BeginsWith, BeginsWithNo, is_blank, is_comment_mark}
 use Rattle.ini_text.specs.Grammar.CharacterKinds.{is_line_end, is_line_feed, line_feed, open_bracket}
-use Rattle.ini_text.specs.Grammar.Elements.{Element, Gap, Given}
+use Rattle.ini_text.specs.Grammar.Elements.{Element}
 use Rattle.ini_text.specs.Grammar.Keys.{begins_indented_key}
 use Rattle.ini_text.specs.Grammar.Pieces.{ArePieces, Piece, pieces_items, pieces_text}
 use Rattle.ini_text.specs.Grammar.Positions.{last_or}
@@ -22,9 +22,10 @@ use Rattle.ini_edit.specs.Endings.{IsIndentedKey}
 use Rattle.ini_edit.specs.Inside.Spans.{IsGap}
 use Rattle.ini_edit.specs.SourceLines.{after_blanks, dropped_key, is_in_comment}
 use Rattle.ini_edit.proofs.EmptyLineLemmas.{blank_or_end, blank_source_no_key, blanks_all, key_blank}
-use Rattle.ini_edit.proofs.EmptyLineLemmas.{nothing_no_key}
+use Rattle.ini_edit.proofs.EmptyLineLemmas.{character_no_key, line_no_key}
 use Rattle.ini_edit.proofs.EndingLemmas.{no_feed_by}
 use Rattle.ini_edit.proofs.GapLemmas.{empty_front}
+use Rattle.ini_edit.proofs.QuietLemmas.{Free, Quiet, QuietFront, Tail, as_quiet, quiet_front}
 use Rattle.ini_edit.proofs.SourceSetLemmas.{line_end_no_mark}
 
 -- no element that gives nothing begins with a bracket
@@ -35,31 +36,21 @@ no_bracket_by test (c ∷ s) t apart h =
     false_from_ne_true (c == open_bracket)
     (λ q. both_ways (test open_bracket) apart (subst (λ z. test z ≡ true) (eqb-true c open_bracket q) h))
 
-element_no_bracket : {o : ParseOption} {b s r : Text} {gives : List Given} (t : Text) → Element o b s r gives
-    → gives ≡ [] → BeginsWithNo (λ c. c == open_bracket) (s ++ t)
-element_no_bracket t (Element.gap (Gap.blank_line {w = w} c i q)) none =
-    subst (BeginsWithNo (λ c. c == open_bracket)) (sym (append_assoc w (c ∷ []) t))
-    (no_bracket_by is_blank w (c ∷ t) refl i.some)
-element_no_bracket t (Element.gap (Gap.before_header {w = w} i)) none = no_bracket_by is_blank w t refl i.some
-element_no_bracket t (Element.gap (Gap.white {c = c} q n)) none =
-    no_bracket_by is_whitespace (c ∷ []) t refl q
-element_no_bracket t (Element.comment {m = m} s one mark all) none =
-    no_bracket_by is_comment_mark (m ∷ []) ((s ++ line_feed ∷ []) ++ t) refl mark
-element_no_bracket t (Element.last_comment {m = m} {s = s} one mark all) none =
-    no_bracket_by is_comment_mark (m ∷ []) (s ++ t) refl mark
-element_no_bracket t (Element.header off str) none = absurd (cc (none))
-element_no_bracket t (Element.bracketed_header on str i) none = absurd (cc (none))
-element_no_bracket t (Element.pair front key sep value) none = absurd (cc (none))
-element_no_bracket t (Element.dropped_blanks {w = w} i) none = no_bracket_by is_blank w t refl i.some
-element_no_bracket t (Element.dropped_key {w = w} {s = s} i begins stops) none =
+quiet_no_bracket : {b s r : Text} (t : Text) → QuietFront b s r
+    → BeginsWithNo (λ c. c == open_bracket) (s ++ t)
+quiet_no_bracket t (QuietFront.blanks {w = w} s i) =
     subst (BeginsWithNo (λ c. c == open_bracket)) (sym (append_assoc w s t))
     (no_bracket_by is_blank w (s ++ t) refl i.some)
+quiet_no_bracket t (QuietFront.white {c = c} q n) = no_bracket_by is_whitespace (c ∷ []) t refl q
+quiet_no_bracket t (QuietFront.comment {m = m} {t = s} one mark is) =
+    no_bracket_by is_comment_mark (m ∷ []) (s ++ t) refl mark
 
 pub pieces_no_bracket : {o : ParseOption} {c : ℕ} {r : Text} (ps : List Piece) → pieces_items ps ≡ []
     → ArePieces o c ps r → BeginsWithNo (λ c. c == open_bracket) (pieces_text ps)
 pieces_no_bracket [] none are = tt
 pieces_no_bracket (p ∷ ps) none (ArePieces.more e rest) =
-    element_no_bracket (pieces_text ps) e (empty_front p.gives (pieces_items ps) none).0
+    quiet_no_bracket (pieces_text ps)
+    (quiet_front (as_quiet e (empty_front p.gives (pieces_items ps) none).0))
 
 -- past blanks
 past_blanks : (w : Text) (c : ℕ) (t : Text) → list_all is_blank w ≡ true → is_blank c ≡ false
@@ -214,41 +205,36 @@ mark_no_key : {m : ℕ} {s : Text} → is_comment_mark m ≡ true → ¬ IsInden
 mark_no_key {m} mark key = both_ways (is_blank m) (comment_mark-apart m mark).0 (key_blank key)
 
 module _ {o : ParseOption} where
-  passes : {c : ℕ} {s r t : Text} {gives : List Given} → Element o (c ∷ []) s r gives → gives ≡ [] → r ≡ t
+  passes : {c : ℕ} {s r t : Text} → Quiet o (c ∷ []) s r → r ≡ t
       → BeginsWithNo (λ c. c == open_bracket) t → Passes c s t
-  passes {c} {t = t} (Element.gap (Gap.blank_line {w = w} e i q)) none same apart =
+  passes {c} {t = t} (Quiet.anywhere (Free.line {w = w} e i q)) same apart =
       let after : after_blanks (w ++ e ∷ t) ≡ e ∷ t = past_blanks w e t i.blank (line_end_no_blank e q) in
-      let before_any : Element o (c ∷ []) (w ++ e ∷ []) (0 ∷ []) [] = Element.gap (Gap.blank_line e i q) in
-      Passes.past (nothing_no_key before_any (λ h. cc) refl)
+      Passes.past (line_no_key w e i.blank q)
       (ap (dropped_key false c) (append_assoc w (e ∷ []) t)
       ∙ indent_past c w (e ∷ t) i.some i.blank
       (ap (begins (λ x. not (is_line_end x))) after ∙ ap not q)
       ∙ end_past (last_or c w) e t q
       ∙ ap (λ z. dropped_key false z t) (sym (last_or-append c w (e ∷ []))))
-  passes {t = t} (Element.gap (Gap.before_header i)) none same apart =
+  passes {t = t} (Quiet.before_header i) same apart =
       absurd (false≢true (sym (subst (BeginsWithNo (λ c. c == open_bracket)) (sym same) apart)))
-  passes {c} {t = t} (Element.gap (Gap.white {c = d} q n)) none same apart =
-      let before_any : Element o (c ∷ []) (d ∷ []) (0 ∷ []) [] = Element.gap (Gap.white q n) in
-      Passes.past (nothing_no_key before_any (λ h. cc) refl) (white_past c d t q n)
-  passes {c} {t = t} (Element.comment {m = m} s one mark all) none same apart =
+  passes {c} {t = t} (Quiet.anywhere (Free.white {c = d} q n)) same apart =
+      Passes.past (character_no_key d) (white_past c d t q n)
+  passes {c} {t = t} (Quiet.anywhere (Free.comment {m = m} s one mark all)) same apart =
       Passes.past (mark_no_key mark)
       (ap (λ z. dropped_key false c (m ∷ z)) (append_assoc s (line_feed ∷ []) t)
       ∙ mark_past c m (s ++ line_feed ∷ t) mark ∙ comment_past m s t all
       ∙ ap (λ z. dropped_key false z t) (sym (last_or-append m s (line_feed ∷ []))))
-  passes {c} {t = t} (Element.last_comment {m = m} {s = s} one mark all) none same apart =
+  passes {c} {t = t} (Quiet.at_end (Tail.comment {m = m} {s = s} one mark all)) same apart =
       Passes.past (mark_no_key mark)
       (subst (λ t. dropped_key false c ((m ∷ s) ++ t) ≡ dropped_key false (last_or m s) t) same
       (ap (λ z. dropped_key false c (m ∷ z)) (append-nil s) ∙ mark_past c m s mark ∙ comment_last m s all))
-  passes (Element.header off str) none same apart = absurd (cc (none))
-  passes (Element.bracketed_header on str i) none same apart = absurd (cc (none))
-  passes (Element.pair front key sep value) none same apart = absurd (cc (none))
-  passes {c} {t = t} (Element.dropped_blanks {w = w} i) none same apart =
+  passes {c} {t = t} (Quiet.at_end (Tail.blanks {w = w} i)) same apart =
       Passes.past (blank_source_no_key w (subst (λ z. list_all blank_or_end z ≡ true) (append-nil w)
       (blanks_all w [] i.blank refl)))
       (subst (λ t. dropped_key false c (w ++ t) ≡ dropped_key false (last_or c w) t) same
       (indent_past c w [] i.some i.blank
       (ap (begins (λ x. not (is_line_end x))) (ap after_blanks (append-nil w) ∙ only_blanks w i.blank))))
-  passes {c} {t = t} (Element.dropped_key {w = w} {s = s} i begins stops) none same apart =
+  passes {c} {t = t} (Quiet.at_end (Tail.key {w = w} s i begins)) same apart =
       subst (Passes c (w ++ s)) same
       (Passes.found (ap (dropped_key false c) (append-nil (w ++ s))
       ∙ key_found c w s i.at_line_start i.some i.blank begins ∙ sym (append-nil (w ++ s)))
@@ -284,8 +270,8 @@ module _ {o : ParseOption} where
   }
   off_pieces {b} (p ∷ ps) none (ArePieces.more e rest) =
       let parts = empty_front p.gives (pieces_items ps) none in
-      at (passes e parts.0 (append-nil (pieces_text ps)) (pieces_no_bracket ps parts.1 rest)) parts.0
-      (off_pieces {b = last_or b p.source} ps parts.1 rest)
+      at (passes (as_quiet e parts.0) (append-nil (pieces_text ps)) (pieces_no_bracket ps parts.1 rest))
+      parts.0 (off_pieces {b = last_or b p.source} ps parts.1 rest)
     where
       at : Passes b p.source (pieces_text ps) → p.gives ≡ []
           → DroppedOff o (last_or b p.source) (pieces_text ps)

@@ -1,18 +1,16 @@
 -- Sources of blanks and line ends, which are no key, and texts that no backslash ends.
 use Rattle.std.proofs.Common.{◌≡◌, ◌≢◌, ◌∙◌, ◌||◌, ◌==◌, ℕ, Bool, true, false, not, eqb, List, [], ◌∷◌, ◌++◌, ap}
-use Rattle.std.proofs.Common.{append-nil, eqb-true, if◌then◌else◌, refl, subst, sym}
-use Rattle.std.proofs.lemmas.Bool.{and_from, and_left, and_parts, both_ways, false≢true, false_from_ne_true}
+use Rattle.std.proofs.Common.{eqb-true, if◌then◌else◌, refl, subst, sym}
+use Rattle.std.proofs.lemmas.Bool.{and_from, and_left, and_parts, false≢true, false_from_ne_true}
 use Rattle.std.proofs.lemmas.Bool.{or_left, or_right}
 use Rattle.std.specs.List.{list_all}
 use Rattle.ini_text.specs.Grammar.CharacterKinds.{BeginsWith, backslash, is_blank, is_line_end, line_feed}
 use Rattle.ini_text.specs.Grammar.CharacterKinds.{open_bracket}
-use Rattle.ini_text.specs.Grammar.Elements.{Element, Gap, Given}
 use Rattle.ini_text.specs.Grammar.Keys.{begins_indented_key}
 use Rattle.ini_text.specs.Inside.PlainTests.{begins}
 use Rattle.ini_text.specs.Options.Backslashes.{begins_escape}
 use Rattle.ini_text.specs.Options.ReadOptions.{backslash_of}
 use Rattle.ini_text.specs.declared.option.ParseOption.{ParseOption}
-use Rattle.ini_text.proofs.GrammarLemmas.KindLemmas.{comment_mark-apart}
 use Rattle.ini.specs.Texts.{Text}
 use Rattle.ini_edit.specs.Endings.{Closing, Ending, IsIndentedKey, ending_from, next_ending}
 
@@ -64,26 +62,16 @@ one_no_key blanks [] some begins is = absurd (let no : true ≡ false = begins i
 one_no_key (b ∷ []) (k ∷ rest) some begins is = cc
 one_no_key (b ∷ d ∷ blanks) (k ∷ rest) some begins is = cc
 
--- an element that gives nothing, and which something follows, is no indented key
-pub nothing_no_key : {o : ParseOption} {b s r : Text} {gives : List Given} → Element o b s r gives → r ≢ []
-    → gives ≡ [] → ¬ IsIndentedKey s
-nothing_no_key (Element.gap (Gap.blank_line {w} c i end)) some none key =
+pub character_no_key : (c : ℕ) → ¬ IsIndentedKey (c ∷ [])
+character_no_key c key = one_no_key key.blanks key.key key.some key.begins key.whole
+
+-- a line of blanks is none either
+pub line_no_key : (w : Text) (c : ℕ) → list_all is_blank w ≡ true → is_line_end c ≡ true
+    → ¬ IsIndentedKey (w ++ c ∷ [])
+line_no_key w c blank end =
     blank_source_no_key (w ++ c ∷ [])
-    (blanks_all w (c ∷ []) i.blank
-    (and_from (blank_or_end c) true (or_right (is_blank c) (is_line_end c) end) refl)) key
-nothing_no_key (Element.gap (Gap.before_header {w} i)) some none key =
-    blank_source_no_key w (subst (λ z. list_all blank_or_end z ≡ true) (append-nil w)
-    (blanks_all w [] i.blank refl)) key
-nothing_no_key (Element.gap (Gap.white {c} white n)) some none key =
-    one_no_key key.blanks key.key key.some key.begins key.whole
-nothing_no_key (Element.comment {m} s one mark all) some none key =
-    both_ways (is_blank m) (comment_mark-apart m mark).0 (key_blank key)
-nothing_no_key (Element.last_comment one mark all) some none key = some refl
-nothing_no_key (Element.header off str) some none key = cc
-nothing_no_key (Element.bracketed_header on str i) some none key = cc
-nothing_no_key (Element.pair front name sep value) some none key = cc
-nothing_no_key (Element.dropped_blanks i) some none key = some refl
-nothing_no_key (Element.dropped_key i begins stops) some none key = some refl
+    (blanks_all w (c ∷ []) blank
+    (and_from (blank_or_end c) true (or_right (is_blank c) (is_line_end c) end) refl))
 
 -- only a backslash takes what follows it
 pub no_escape : (o : ParseOption) (e : Ending) (X : List ℕ) (c : ℕ) → eqb c backslash ≡ false

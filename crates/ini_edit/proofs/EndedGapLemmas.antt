@@ -6,7 +6,7 @@ use Rattle.std.proofs.lemmas.List.Folds.{list_all-append}
 use Rattle.std.specs.List.{list_all}
 use Rattle.ini_text.specs.Grammar.CharacterKinds.{BeginsWith, BeginsWithNo, is_blank, is_comment_mark}
 use Rattle.ini_text.specs.Grammar.CharacterKinds.{is_line_end, is_line_feed, line_feed, open_bracket}
-use Rattle.ini_text.specs.Grammar.Elements.{Element, Gap, Given}
+use Rattle.ini_text.specs.Grammar.Elements.{Element, Gap}
 use Rattle.ini_text.specs.Grammar.Keys.{Indentation, begins_indented_key}
 use Rattle.ini_text.specs.Grammar.Pieces.{ArePieces, Piece, pieces_items, pieces_text}
 use Rattle.ini_text.specs.Grammar.Positions.{last_or}
@@ -22,6 +22,7 @@ use Rattle.ini_edit.proofs.DroppedKeyLemmas.{AreKeyless}
 use Rattle.ini_edit.proofs.EndingLemmas.{no_feed_by}
 use Rattle.ini_edit.proofs.GapLemmas.{empty_front, gap_join}
 use Rattle.ini_edit.proofs.GapPartLemmas.{all_last, no_blank_end}
+use Rattle.ini_edit.proofs.QuietLemmas.{Quiet, Tail, as_quiet, free}
 use Rattle.ini_edit.proofs.SectionTakenLemmas.{IsFeed}
 
 abbrev is_other : ℕ → Bool
@@ -91,23 +92,14 @@ module _ {o : ParseOption} where
       (one_gap (Element.comment (s ++ 0x0D ∷ []) one mark
       (list_all-append is_other s (0x0D ∷ []) ∙ and_from (list_all is_other s) true all refl)))
 
-  element_ended : {c : ℕ} {s y x l : Text} {gives : List Given} → IsFeed l → Element o (c ∷ []) s y gives
-      → gives ≡ [] → ¬ IsIndentedKey s → BeginsWithNo (λ c. c == open_bracket) y → IsGap o c (s ++ l) x
-  element_ended feed (Element.gap (Gap.blank_line d i q)) empty key other =
-      gap_after (Element.gap (Gap.blank_line d i q)) (feed_gap feed)
-  element_ended feed (Element.gap (Gap.before_header {r = r} i)) empty key other = no_bracket r other
-  element_ended feed (Element.gap (Gap.white q n)) empty key other =
-      gap_after (Element.gap (Gap.white q n)) (feed_gap feed)
-  element_ended feed (Element.comment s one mark all) empty key other =
-      gap_after (Element.comment s one mark all) (feed_gap feed)
-  element_ended feed (Element.last_comment {s = s} one mark all) empty key other =
+  quiet_ended : {c : ℕ} {s y l : Text} (x : Text) → IsFeed l → Quiet o (c ∷ []) s y → ¬ IsIndentedKey s
+      → BeginsWithNo (λ c. c == open_bracket) y → IsGap o c (s ++ l) x
+  quiet_ended {l = l} x feed (Quiet.anywhere e) key other = gap_after (free (l ++ x) e) (feed_gap feed)
+  quiet_ended x feed (Quiet.before_header {r = r} i) key other = no_bracket r other
+  quiet_ended x feed (Quiet.at_end (Tail.comment {s = s} one mark all)) key other =
       comment_ended s feed one mark all
-  element_ended feed (Element.header off str) empty key other = absurd (cc (empty))
-  element_ended feed (Element.bracketed_header on str i) empty key other = absurd (cc (empty))
-  element_ended feed (Element.pair front name sep value) empty key other = absurd (cc (empty))
-  element_ended feed (Element.dropped_blanks i) empty key other = blanks_ended feed i
-  element_ended feed (Element.dropped_key {s = s} i begins stops) empty key other =
-      absurd (key (key_there s i begins))
+  quiet_ended x feed (Quiet.at_end (Tail.blanks i)) key other = blanks_ended feed i
+  quiet_ended x feed (Quiet.at_end (Tail.key s i begins)) key other = absurd (key (key_there s i begins))
 
   -- elements with a line end after them
   pub pieces_ended : {c : ℕ} {y l : Text} (x : Text) (ps : List Piece) → IsFeed l → pieces_items ps ≡ []
@@ -122,27 +114,20 @@ module _ {o : ParseOption} where
     where
       at : (t : Text) → p.gives ≡ [] → Element o (c ∷ []) p.source (t ++ y) p.gives
           → IsGap o (last_or c p.source) (t ++ l) x → IsGap o c (p.source ++ (t ++ l)) x
-      at [] empty e g = element_ended feed e empty keyless.0 other
+      at [] empty e g = quiet_ended x feed (as_quiet e empty) keyless.0 other
       at (d ∷ t) empty e g =
           gap_after (Element-before BeginAlike.character
           (subst (Element o (c ∷ []) p.source ((d ∷ t) ++ y)) empty e)) g
 
   -- an element that ends with LF
-  element_stands : {c : ℕ} {s y x : Text} {gives : List Given} → Element o (c ∷ []) s y gives → gives ≡ []
-      → ¬ IsIndentedKey s → is_line_feed (last_or c s) ≡ true → Element o (c ∷ []) s x gives
-  element_stands (Element.gap (Gap.blank_line d i q)) empty key feed = Element.gap (Gap.blank_line d i q)
-  element_stands {c} (Element.gap (Gap.before_header {w = w} i)) empty key feed =
-      blank_last c w i.some i.blank feed
-  element_stands (Element.gap (Gap.white q n)) empty key feed = Element.gap (Gap.white q n)
-  element_stands (Element.comment s one mark all) empty key feed = Element.comment s one mark all
-  element_stands (Element.last_comment {m = m} {s = s} one mark all) empty key feed =
+  quiet_stands : {c : ℕ} {s y : Text} (x : Text) → Quiet o (c ∷ []) s y → ¬ IsIndentedKey s
+      → is_line_feed (last_or c s) ≡ true → Element o (c ∷ []) s x []
+  quiet_stands x (Quiet.anywhere e) key feed = free x e
+  quiet_stands {c} x (Quiet.before_header {w = w} i) key feed = blank_last c w i.some i.blank feed
+  quiet_stands x (Quiet.at_end (Tail.comment {m = m} {s = s} one mark all)) key feed =
       comment_last m s mark all feed
-  element_stands (Element.header off str) empty key feed = absurd (cc (empty))
-  element_stands (Element.bracketed_header on str i) empty key feed = absurd (cc (empty))
-  element_stands (Element.pair front name sep value) empty key feed = absurd (cc (empty))
-  element_stands {c} (Element.dropped_blanks {w = w} i) empty key feed = blank_last c w i.some i.blank feed
-  element_stands (Element.dropped_key {s = s} i begins stops) empty key feed =
-      absurd (key (key_there s i begins))
+  quiet_stands {c} x (Quiet.at_end (Tail.blanks {w = w} i)) key feed = blank_last c w i.some i.blank feed
+  quiet_stands x (Quiet.at_end (Tail.key s i begins)) key feed = absurd (key (key_there s i begins))
 
   pieces_stand : {c : ℕ} {y : Text} (x : Text) (ps : List Piece) → pieces_items ps ≡ [] → AreKeyless ps
       → is_line_feed (last_or c (pieces_text ps)) ≡ true → ArePieces o c ps y → ArePieces o c ps x
@@ -156,8 +141,9 @@ module _ {o : ParseOption} where
       at : (t : Text) → p.gives ≡ [] → is_line_feed (last_or c (p.source ++ t)) ≡ true
           → Element o (c ∷ []) p.source (t ++ y) p.gives → Element o (c ∷ []) p.source (t ++ x) p.gives
       at [] empty feed e =
-          element_stands e empty keyless.0
-          (ap (λ t. is_line_feed (last_or c t)) (sym (append-nil p.source)) ∙ feed)
+          subst (Element o (c ∷ []) p.source x) (sym empty)
+          (quiet_stands x (as_quiet e empty) keyless.0
+          (ap (λ t. is_line_feed (last_or c t)) (sym (append-nil p.source)) ∙ feed))
       at (d ∷ t) empty feed e = Element-before BeginAlike.character e
 
   -- elements that end with LF

@@ -10,7 +10,8 @@ use Rattle.ini_text.specs.Grammar.CharacterKinds.{is_line_feed, is_separator, Be
 use Rattle.ini_text.specs.Grammar.Positions.{last_or, is_column_one}
 use Rattle.ini_text.specs.Grammar.Strings.{Str, bracketed_name_ends}
 use Rattle.ini_text.specs.Grammar.Values.{LineEnd, MoreLines, Value}
-use Rattle.ini_text.specs.Grammar.Elements.{Given, Gap, Element}
+use Rattle.ini_text.specs.Grammar.Elements.{Given, Element}
+use Rattle.ini_text.specs.Grammar.Keys.{Indentation}
 use Rattle.ini_text.proofs.LawLemmas.MovedLemmas.{last_or-after}
 use Rattle.ini_text.proofs.LawLemmas.OneAheadLemmas.{Alike, EndedLine-before, KeyFront-alike, Str-alike}
 use Rattle.ini_text.proofs.PlainLemmas.PlainPairLemmas.{inline_blanks}
@@ -19,6 +20,7 @@ use Rattle.ini_edit.specs.Places.{Follows}
 use Rattle.ini_edit.proofs.EndingLemmas.{column_ending, ending-after, ending-lead, ending-line}
 use Rattle.ini_edit.proofs.EndingLemmas.{ending-row, ending-white, inner_by, line_no_line}
 use Rattle.ini_edit.proofs.EndingLemmas.{no_feed_by}
+use Rattle.ini_edit.proofs.QuietLemmas.{IsHeader, Quiet, Shape, Tail, free, shape}
 
 -- no text of blanks ends so, and no comment without LF
 pub ending-blanks : (o : ParseOption) (b w : List ℕ) → BeginsWith is_blank w → list_all is_blank w ≡ true
@@ -117,21 +119,25 @@ module _ {o : ParseOption} {x : List ℕ} (follows : Follows o x) where
   pub Element-ended : {b s r : List ℕ} {gives : List Given} → Element o b s r gives
       → (gives ≡ [] → ¬ IsIndentedKey s)
       → ending o (b ++ s) ≡ Ending.line → Element o b s x gives
-  Element-ended (Element.gap (Gap.blank_line c i e)) whole h = Element.gap (Gap.blank_line c i e)
-  Element-ended {b} (Element.gap (Gap.before_header {w = w} i)) whole h =
-      let no : Ending.inside ≡ Ending.line = sym (ending-blanks o b w i.some i.blank) ∙ h in cc
-  Element-ended (Element.gap (Gap.white w n)) whole h = Element.gap (Gap.white w n)
-  Element-ended (Element.comment s one mark all) whole h = Element.comment s one mark all
-  Element-ended {b} (Element.last_comment {m} {s} one mark all) whole h =
-      absurd (comment_no_line o b m s mark all h)
-  Element-ended (Element.header off str) whole h = Element.header off (Str-alike Alike.same str)
-  Element-ended {b} (Element.bracketed_header on str i) whole h =
-      let no : Ending.inside ≡ Ending.line = sym (row_no_line o b str) ∙ h in cc
-  Element-ended {b} (Element.pair {k} {s} {m = m} front some sep given) whole h =
-      Element.pair (KeyFront-alike Alike.same front) some sep
-      (Value-ended given (sym (ending-separator o b k m s sep) ∙ h))
-  Element-ended {b} (Element.dropped_blanks {w} i) whole h =
-      let no : Ending.inside ≡ Ending.line = sym (ending-blanks o b w i.some i.blank) ∙ h in cc
-  Element-ended (Element.dropped_key {w} {s} i begins stops) whole h =
-      absurd (whole refl (record
-      { blanks = w; key = s; whole = refl; some = i.some; blank = i.blank; begins = begins }))
+  Element-ended {b = b} e = at (shape e)
+    where
+      no_blanks : {X : Type 0} {w : List ℕ} → Indentation b w → ending o (b ++ w) ≡ Ending.line → X
+      no_blanks {w = w} i h =
+          let no : Ending.inside ≡ Ending.line = sym (ending-blanks o b w i.some i.blank) ∙ h in cc
+
+      at : {s r : List ℕ} {gives : List Given} → Shape o b s r gives → (gives ≡ [] → ¬ IsIndentedKey s)
+          → ending o (b ++ s) ≡ Ending.line → Element o b s x gives
+      at (Shape.quiet (Quiet.anywhere e)) whole h = free x e
+      at (Shape.quiet (Quiet.before_header i)) whole h = no_blanks i h
+      at (Shape.quiet (Quiet.at_end (Tail.comment {m} {s} one mark all))) whole h =
+          absurd (comment_no_line o b m s mark all h)
+      at (Shape.quiet (Quiet.at_end (Tail.blanks i))) whole h = no_blanks i h
+      at (Shape.quiet (Quiet.at_end (Tail.key {w} s i begins))) whole h =
+          absurd (whole refl (record
+          { blanks = w; key = s; whole = refl; some = i.some; blank = i.blank; begins = begins }))
+      at (Shape.header (IsHeader.plain off str)) whole h = Element.header off (Str-alike Alike.same str)
+      at (Shape.header (IsHeader.bracketed on str i)) whole h =
+          let no : Ending.inside ≡ Ending.line = sym (row_no_line o b str) ∙ h in cc
+      at (Shape.pair {k} {s} {m = m} front some sep given) whole h =
+          Element.pair (KeyFront-alike Alike.same front) some sep
+          (Value-ended given (sym (ending-separator o b k m s sep) ∙ h))

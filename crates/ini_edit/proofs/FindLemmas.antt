@@ -9,6 +9,7 @@ use Rattle.std.proofs.lemmas.List.{append_cancel_left}
 use Rattle.std.specs.List.{list_all}
 use Rattle.ini_text.specs.Grammar.CharacterKinds.{is_inline_white}
 use Rattle.ini_text.specs.Grammar.Elements.{Given, Header, Pair, Element}
+use Rattle.ini_text.specs.Options.Backslashes.{Backslash}
 use Rattle.ini_text.specs.Grammar.Places.{SpaceAfter, pair_source}
 use Rattle.ini_text.specs.Grammar.Texts.{Reads}
 use Rattle.ini_text.specs.Laws.PlainLaws.{BeginsWithHeader}
@@ -258,10 +259,10 @@ items_split (Pair key value ∷ items) =
     let more = items_split items in
     ((key, value) ∷ more.0, (more.1.0, (ap (λ l. Pair key value ∷ l) more.1.1.0, more.1.1.1)))
 
-pub white_after : {raw_value space_after : Text} → SpaceAfter raw_value space_after
+pub white_after : {b : Backslash} {raw_value space_after : Text} → SpaceAfter b raw_value space_after
     → list_all is_inline_white space_after ≡ true
 white_after (SpaceAfter.bare bare white) = white
-white_after (SpaceAfter.escaped front white all) = refl
+white_after (SpaceAfter.escaped front white special all) = refl
 
 pub end_reads : {o : ParseOption} {T c d : Text} → EndsSection o T c d
     → (items : List Given) × Reads o T c items d

@@ -8,7 +8,7 @@ use Rattle.std.specs.Char.{is_whitespace}
 use Rattle.std.specs.List.{list_all}
 use Rattle.ini_text.specs.Grammar.CharacterKinds.{BeginsWith, carriage_return, is_comment_mark, is_line_end}
 use Rattle.ini_text.specs.Grammar.CharacterKinds.{is_line_feed, line_feed}
-use Rattle.ini_text.specs.Grammar.Elements.{Element, Gap, Given}
+use Rattle.ini_text.specs.Grammar.Elements.{Element, Gap}
 use Rattle.ini_text.specs.Grammar.Pieces.{ArePieces, Piece, pieces_items, pieces_text}
 use Rattle.ini_text.specs.Grammar.Positions.{is_column_one, last_or}
 use Rattle.ini_text.specs.Parsing.Fronts.{front_of}
@@ -22,6 +22,7 @@ use Rattle.ini_edit.proofs.CommentRowLemmas.{IsNewLine, comments_ended}
 use Rattle.ini_edit.proofs.CommentRowLemmas.{comments_whole}
 use Rattle.ini_edit.proofs.GapLemmas.{empty_front, gap_join, pieces_column}
 use Rattle.ini_edit.proofs.GapPartLemmas.{gap_nothing}
+use Rattle.ini_edit.proofs.QuietLemmas.{as_quiet, quiet_front, white_within}
 use Rattle.ini_edit.proofs.SourceAddLemmas.{line_ends_gap}
 
 -- the line end with which a text begins
@@ -110,26 +111,6 @@ module _ {o : ParseOption} where
     are = ArePieces.more (Element.gap (Gap.white white (λ _. within))) ArePieces.none;
   }
 
-  -- within a line an element that gives nothing is one white character
-  white_here : {c : ℕ} {s y : Text} {gives : List Given} → Element o (c ∷ []) s y gives → gives ≡ []
-      → is_line_end c ≡ false → (d : ℕ) × (s ≡ d ∷ []) × (is_whitespace d ≡ true)
-  white_here {c} (Element.gap (Gap.blank_line d i q)) none within =
-      absurd (both_ways (is_line_end c) within i.at_line_start)
-  white_here {c} (Element.gap (Gap.before_header i)) none within =
-      absurd (both_ways (is_line_end c) within i.at_line_start)
-  white_here (Element.gap (Gap.white {c = d} q n)) none within = (d, refl, q)
-  white_here {c} (Element.comment s one mark all) none within =
-      absurd (both_ways (is_line_end c) within (or_left (is_line_feed c) _ one))
-  white_here {c} (Element.last_comment one mark all) none within =
-      absurd (both_ways (is_line_end c) within (or_left (is_line_feed c) _ one))
-  white_here (Element.header off str) none within = absurd (cc (none))
-  white_here (Element.bracketed_header on str i) none within = absurd (cc (none))
-  white_here (Element.pair front key sep value) none within = absurd (cc (none))
-  white_here {c} (Element.dropped_blanks i) none within =
-      absurd (both_ways (is_line_end c) within i.at_line_start)
-  white_here {c} (Element.dropped_key i begins stops) none within =
-      absurd (both_ways (is_line_end c) within i.at_line_start)
-
 -- a text's first line, before any text
 record IsLineFront (o : ParseOption) (x : Text) (c : ℕ) (t f : Text) : Type 0 where
   whole : f ++ after_line t ≡ t
@@ -141,7 +122,7 @@ module _ {o : ParseOption} {x : Text} where
   line_front [] are none within = ([], record { whole = refl; is = gap_nothing })
   line_front {c} (p ∷ ps) (ArePieces.more e rest) none within =
       let nothing = empty_front p.gives (pieces_items ps) none in
-      let w = white_here e nothing.0 within in
+      let w = white_within (quiet_front (as_quiet e nothing.0)) within in
       at w.0 w.1 w.2 (λ inner. line_front {c = last_or c p.source} ps rest nothing.1 inner)
     where
       at : (d : ℕ) → p.source ≡ d ∷ [] → is_whitespace d ≡ true

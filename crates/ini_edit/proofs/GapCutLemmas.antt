@@ -10,7 +10,7 @@ use Rattle.std.specs.List.{list_all}
 use Rattle.ini_text.specs.Grammar.CharacterKinds.{BeginsWith, BeginsWithNo, carriage_return, is_blank}
 use Rattle.ini_text.specs.Grammar.CharacterKinds.{is_comment_mark, is_line_end, is_line_feed, line_feed}
 use Rattle.ini_text.specs.Grammar.CharacterKinds.{open_bracket}
-use Rattle.ini_text.specs.Grammar.Elements.{Element, Gap, Given}
+use Rattle.ini_text.specs.Grammar.Elements.{Given}
 use Rattle.ini_text.specs.Grammar.Keys.{begins_indented_key}
 use Rattle.ini_text.specs.Grammar.Pieces.{ArePieces, Piece, pieces_items, pieces_text}
 use Rattle.ini_text.specs.Grammar.Positions.{last_or}
@@ -25,8 +25,9 @@ use Rattle.ini_edit.specs.Inside.Spans.{IsGap}
 use Rattle.ini_edit.specs.SourceLines.{is_blank_or_line_end}
 use Rattle.ini_edit.specs.SourceLines.{after_blank_lines, after_comments, after_line, after_line_end}
 use Rattle.ini_edit.specs.SourceLines.{after_line_feed, blanks_at_end}
-use Rattle.ini_edit.proofs.CommentLemmas.{IsComment, marked_comment}
+use Rattle.ini_edit.proofs.CommentLemmas.{marked_comment}
 use Rattle.ini_edit.proofs.GapLemmas.{empty_front, line_end_element}
+use Rattle.ini_edit.proofs.QuietLemmas.{Free, IsComment, Quiet, Tail, as_quiet, quiet_front, white_within}
 use Rattle.ini_edit.proofs.SourceSetLemmas.{line_end_no_mark}
 
 -- pieces, of which the text from one on is this
@@ -117,32 +118,13 @@ ended_line [] h = refl
 ended_line (c ∷ t) h = sym (cond-true (is_line_end c) _ _ h)
 
 module _ {o : ParseOption} where
-  -- an element that gives nothing within a line is one character
-  white_only : {c : ℕ} {s z : Text} {gives : List Given} → Element o (c ∷ []) s z gives → gives ≡ []
-      → is_line_end c ≡ false → (d : ℕ) × (s ≡ d ∷ [])
-  white_only {c} (Element.gap (Gap.blank_line d i q)) none apart =
-      absurd (both_ways (is_line_end c) apart i.at_line_start)
-  white_only {c} (Element.gap (Gap.before_header i)) none apart =
-      absurd (both_ways (is_line_end c) apart i.at_line_start)
-  white_only (Element.gap (Gap.white {c = d} q n)) none apart = (d, refl)
-  white_only {c} (Element.comment s one mark all) none apart =
-      absurd (both_ways (is_line_end c) apart (or_left (is_line_feed c) _ one))
-  white_only {c} (Element.last_comment one mark all) none apart =
-      absurd (both_ways (is_line_end c) apart (or_left (is_line_feed c) _ one))
-  white_only (Element.header {v = v} off str) none apart = cc
-  white_only (Element.bracketed_header on str i) none apart = cc
-  white_only (Element.pair front some sep value) none apart = cc
-  white_only {c} (Element.dropped_blanks i) none apart =
-      absurd (both_ways (is_line_end c) apart i.at_line_start)
-  white_only {c} (Element.dropped_key i begins stops) none apart =
-      absurd (both_ways (is_line_end c) apart i.at_line_start)
-
   -- after a line feed, and after a line end
   feed_cut : {c : ℕ} {r : Text} (ps : List Piece) → ArePieces o c ps r → pieces_items ps ≡ []
       → IsCut ps (after_line_feed (pieces_text ps))
   feed_cut [] are none = cut_here [] refl
   feed_cut {c} (p ∷ ps) (ArePieces.more e rest) none =
-      at p.source refl (element-some e) (line_end_element e (empty_front p.gives (pieces_items ps) none).0)
+      at p.source refl (element-some e)
+      (line_end_element (quiet_front (as_quiet e (empty_front p.gives (pieces_items ps) none).0)))
     where
       at : (s : Text) → p.source ≡ s → 1 ≤ length s → (BeginsWith is_line_end p.source → length p.source ≡ 1)
           → IsCut (p ∷ ps) (after_line_feed (p.source ++ pieces_text ps))
@@ -165,7 +147,8 @@ module _ {o : ParseOption} where
   end_cut [] are none = cut_here [] refl
   end_cut {c} (p ∷ ps) (ArePieces.more e rest) none =
       let parts = empty_front p.gives (pieces_items ps) none in
-      at p.source refl (element-some e) (line_end_element e parts.0) (feed_cut ps rest parts.1)
+      at p.source refl (element-some e) (line_end_element (quiet_front (as_quiet e parts.0)))
+      (feed_cut ps rest parts.1)
     where
       at : (s : Text) → p.source ≡ s → 1 ≤ length s → (BeginsWith is_line_end p.source → length p.source ≡ 1)
           → IsCut ps (after_line_feed (pieces_text ps))
@@ -197,7 +180,7 @@ module _ {o : ParseOption} where
   line_cut_within [] are none apart = cut_here [] refl
   line_cut_within {c} (p ∷ ps) (ArePieces.more e rest) none apart =
       let parts = empty_front p.gives (pieces_items ps) none in
-      let one = white_only e parts.0 apart in
+      let one = white_within (quiet_front (as_quiet e parts.0)) apart in
       at one.0 one.1 (end_cut (p ∷ ps) (ArePieces.more e rest) none)
       (λ other. line_cut_within {c = last_or c p.source} ps rest parts.1
       (ap (λ s. is_line_end (last_or c s)) one.1 ∙ other))
@@ -431,7 +414,7 @@ module _ {o : ParseOption} where
       cut_here [] (sym (none_rest_after lines rest (sym blanks.whole)))
   blank_cut {c} {r} (p ∷ ps) lines rest (ArePieces.more e later) none blanks h =
       let parts = empty_front p.gives (pieces_items ps) none in
-      over e parts.0 refl
+      over (as_quiet e parts.0) refl
       (λ more are free. blank_cut {c = last_or c p.source} ps more rest later parts.1 are free)
     where
       -- all of the piece is such
@@ -449,24 +432,21 @@ module _ {o : ParseOption} where
           cut_here (p ∷ ps) (ap (λ u. u ++ pieces_text ps) is
           ∙ sym (not_blank other (subst (λ u. AreBlanks (u ++ pieces_text ps) lines rest) is blanks)))
 
-      over : {s z : Text} {gives : List Given} → Element o (c ∷ []) s z gives → gives ≡ [] → p.source ≡ s
+      over : {s z : Text} → Quiet o (c ∷ []) s z → p.source ≡ s
           → ((more : Text) → AreBlanks (pieces_text ps) more rest → HasNoBlanks more rest → IsCut ps rest)
           → IsCut (p ∷ ps) rest
-      over (Element.gap (Gap.blank_line {w = w} d i q)) nothing is next =
+      over (Quiet.anywhere (Free.line {w = w} d i q)) is next =
           within (w ++ d ∷ []) is (all_then_end w d i.blank q) next
-      over (Element.gap (Gap.before_header {w = w} i)) nothing is next =
+      over (Quiet.before_header {w = w} i) is next =
           within w is (all_blank w i.blank) next
-      over (Element.gap (Gap.white {c = d} q n)) nothing is next = by (is_blank_or_line_end d) refl
+      over (Quiet.anywhere (Free.white {c = d} q n)) is next = by (is_blank_or_line_end d) refl
         where
           by : (b : Bool) → is_blank_or_line_end d ≡ b → IsCut (p ∷ ps) rest
           by true blank = within (d ∷ []) is (and_from _ _ blank refl) next
           by false other = before is other
-      over (Element.comment {m = m} s one mark all) nothing is next = before is (mark_other_kind m mark)
-      over (Element.last_comment {m = m} one mark all) nothing is next = before is (mark_other_kind m mark)
-      over (Element.header off str) nothing is next = cc
-      over (Element.bracketed_header on str i) nothing is next = cc
-      over (Element.pair front some sep value) nothing is next = cc
-      over (Element.dropped_blanks {w = w} i) nothing is next = within w is (all_blank w i.blank) next
-      over (Element.dropped_key {w = w} {s = s} i begins stops) nothing is next =
+      over (Quiet.anywhere (Free.comment {m = m} s one mark all)) is next = before is (mark_other_kind m mark)
+      over (Quiet.at_end (Tail.comment {m = m} one mark all)) is next = before is (mark_other_kind m mark)
+      over (Quiet.at_end (Tail.blanks {w = w} i)) is next = within w is (all_blank w i.blank) next
+      over (Quiet.at_end (Tail.key {w = w} s i begins)) is next =
           absurd (no_key_cut w s (pieces_text ps) lines rest i.some i.blank begins
           (subst (λ u. AreBlanks (u ++ pieces_text ps) lines rest) is blanks) h)

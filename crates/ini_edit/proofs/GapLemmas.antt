@@ -1,36 +1,33 @@
--- Gaps of a text in pieces: two that are one, one without its first line end, one before another text, and
--- the column of a comment in one.
-use Rattle.std.proofs.Common.{◌≡◌, ◌≢◌, ◌∙◌, ◌≤◌, ◌||◌, ℕ, Bool, true, false, not, Option, List, [], ◌∷◌}
+-- Gaps of a text in pieces: two that are one, one without its first line end, one of blanks and line ends,
+-- and the column of a comment in one.
+use Rattle.std.proofs.Common.{◌≡◌, ◌≢◌, ◌∙◌, ◌≤◌, ◌||◌, ℕ, Bool, true, false, List, [], ◌∷◌}
 use Rattle.std.proofs.Common.{◌++◌, ap}
-use Rattle.std.proofs.Common.{append_assoc, append-nil, arith, inl, inr, length, refl, subst, sym}
+use Rattle.std.proofs.Common.{append_assoc, arith, inl, inr, length, refl, subst, sym}
 use Rattle.std.proofs.lemmas.Bool.{and_parts, both_ways, cases_Bool, false≢true}
 use Rattle.std.proofs.lemmas.List.Folds.{list_all-append}
 use Rattle.std.specs.List.{list_all}
 use Rattle.ini_text.specs.Grammar.CharacterKinds.{BeginsWith, is_blank, is_comment_mark}
 use Rattle.ini_text.specs.Grammar.CharacterKinds.{is_line_end, line_feed, space}
-use Rattle.ini_text.specs.Grammar.Elements.{Element, Gap, Given, Header, Pair}
-use Rattle.ini_text.specs.Grammar.Keys.{Indentation, KeyFront}
+use Rattle.ini_text.specs.Grammar.Elements.{Element, Gap, Given}
+use Rattle.ini_text.specs.Grammar.Keys.{Indentation}
 use Rattle.ini_text.specs.Grammar.Pieces.{ArePieces, Piece, pieces_items, pieces_text}
 use Rattle.ini_text.specs.Grammar.Positions.{is_column_one, last_or, starts_line}
 use Rattle.ini_text.specs.Grammar.Values.{LineEnd}
-use Rattle.ini_text.specs.Laws.PieceLaws.{Agree, BeginAlike}
+use Rattle.ini_text.specs.Laws.PieceLaws.{Agree}
 use Rattle.ini_text.specs.declared.option.ParseOption.{ParseOption}
 use Rattle.ini_text.proofs.GrammarLemmas.ItemLemmas.{element-some}
 use Rattle.ini_text.proofs.GrammarLemmas.KindLemmas.{blank_is_white, line_end_no_blank}
-use Rattle.ini_text.proofs.LawLemmas.LocalLemmas.{Element-before, KeyFront-like, by_front}
-use Rattle.ini_text.proofs.LawLemmas.OneAheadLemmas.{Alike, Str-alike}
 use Rattle.ini_text.proofs.LawLemmas.PieceLemmas.{last_or-append, pieces_items-append, pieces_join}
 use Rattle.ini_text.proofs.LawLemmas.PieceLemmas.{pieces_like, pieces_text-append}
 use Rattle.ini_text.proofs.PlainLemmas.PlainTrimLemmas.{line_end_is_white}
 use Rattle.ini.specs.Texts.{Text}
 use Rattle.ini_edit.specs.Inside.InPlace.{AreInPlace}
-use Rattle.ini_edit.specs.Inside.Spans.{AreSpans, IsGap, IsSpan, Span, gap, opening, span_source}
+use Rattle.ini_edit.specs.Inside.Spans.{AreSpans, IsGap, IsSpan, Span, gap, span_source}
 use Rattle.ini_edit.specs.SourceLines.{is_blank_or_line_end}
-use Rattle.ini_edit.specs.Places.{Follows}
 use Rattle.ini_edit.specs.Sources.{joined}
-use Rattle.ini_edit.proofs.AheadLemmas.{FollowsFront, blank_no_column, key_follows, no_bracketed}
-use Rattle.ini_edit.proofs.CommentLemmas.{IsComment, begins_front, is_comment}
+use Rattle.ini_edit.proofs.CommentLemmas.{begins_front, is_comment}
 use Rattle.ini_edit.proofs.InPlaceLemmas.{in_place-join, in_place-split}
+use Rattle.ini_edit.proofs.QuietLemmas.{IsComment, QuietFront, as_quiet, quiet_front}
 use Rattle.ini_edit.proofs.SourceSetLemmas.{line_end_no_mark}
 use Rattle.ini_edit.proofs.SpanLemmas.{spans_elements}
 
@@ -51,23 +48,11 @@ no_blank_line : {X : Type 0} (w x : Text) → BeginsWith is_blank w → BeginsWi
 no_blank_line [] x h m = absurd (false≢true (sym h))
 no_blank_line (c ∷ w) x h m = absurd (both_ways (is_blank c) (line_end_no_blank c m) h)
 
-pub line_end_element : {o : ParseOption} {b s r : Text} {gives : List Given} → Element o b s r gives
-    → gives ≡ [] → BeginsWith is_line_end s → length s ≡ 1
-line_end_element (Element.gap (Gap.blank_line {w = w} d i q)) is h = no_blank_line w (d ∷ []) i.some h
-line_end_element (Element.gap (Gap.before_header {w = w} i)) is h =
-    no_blank_line w [] i.some (subst (BeginsWith is_line_end) (sym (append-nil w)) h)
-line_end_element (Element.gap (Gap.white q n)) is h = omega arith
-line_end_element (Element.comment {m = m} s one mark all) is h =
+pub line_end_element : {b s r : Text} → QuietFront b s r → BeginsWith is_line_end s → length s ≡ 1
+line_end_element (QuietFront.blanks {w = w} t i) h = no_blank_line w t i.some h
+line_end_element (QuietFront.white q n) h = omega arith
+line_end_element (QuietFront.comment {m = m} one mark is) h =
     absurd (both_ways (is_comment_mark m) (line_end_no_mark m h) mark)
-line_end_element (Element.last_comment {m = m} one mark all) is h =
-    absurd (both_ways (is_comment_mark m) (line_end_no_mark m h) mark)
-line_end_element (Element.header off str) is h = absurd (false≢true h)
-line_end_element (Element.bracketed_header on str i) is h = absurd (false≢true h)
-line_end_element (Element.pair {key = key} {v = v} front some sep given) is h =
-    absurd (let no : Pair key v ∷ [] ≡ [] = is in cc)
-line_end_element (Element.dropped_blanks {w = w} i) is h =
-    no_blank_line w [] i.some (subst (BeginsWith is_line_end) (sym (append-nil w)) h)
-line_end_element (Element.dropped_key {w = w} {s = s} i begins stops) is h = no_blank_line w s i.some h
 
 pub empty_front : (xs ys : List Given) → xs ++ ys ≡ [] → (xs ≡ []) × (ys ≡ [])
 empty_front [] ys h = (refl, h)
@@ -104,7 +89,7 @@ module _ {o : ParseOption} where
       at [] whole none are = absurd (let no : d ∷ b ≡ [] = whole in cc)
       at (p ∷ ps) whole none (ArePieces.more e rest) =
           first p.source refl whole (element-some e)
-          (λ h. line_end_element e (empty_front p.gives (pieces_items ps) none).0 h)
+          (line_end_element (quiet_front (as_quiet e (empty_front p.gives (pieces_items ps) none).0)))
         where
           first : (s : Text) → p.source ≡ s → d ∷ b ≡ s ++ pieces_text ps → 1 ≤ length s
               → (BeginsWith is_line_end p.source → length p.source ≡ 1) → IsGap o d b r
@@ -251,70 +236,3 @@ module _ {o : ParseOption} where
   pub white_gap : {c : ℕ} {r : Text} (t : Text) → list_all is_blank_or_line_end t ≡ true
       → EndsThere r (last_or line_feed t) → IsGap o c t r
   white_gap t all ends = white_from Waits.start t all ends
-
-front_some : {c y : Text} → FollowsFront c y → y ≢ []
-front_some f e = false≢true (sym (subst (BeginsWith (λ c. not (is_line_end c))) e f.some))
-
--- before a key an element that is no pair stands before any other text too
-nothing_follows : {o : ParseOption} → Follows o []
-nothing_follows = record { no_blank = λ _. tt; no_line_end = λ _. tt }
-
-unpaired_ahead : {o : ParseOption} {b s x y : Text} {gives : List Given} → FollowsFront (b ++ s) y → y ≢ []
-    → Element o b s y gives → ((k v : Text) → gives ≢ Pair k v ∷ []) → Element o b s x gives
-unpaired_ahead f some (Element.gap (Gap.blank_line c i h)) unpaired = Element.gap (Gap.blank_line c i h)
-unpaired_ahead {b = b} f some (Element.gap (Gap.before_header {w = w} i)) unpaired = elim f.bracket [
-  | inl apart ↦ absurd (false≢true (sym apart))
-  | inr one ↦ absurd (blank_no_column b w i.some i.blank one)
-]
-unpaired_ahead f some (Element.gap (Gap.white h n)) unpaired = Element.gap (Gap.white h n)
-unpaired_ahead f some (Element.comment s one mark all) unpaired = Element.comment s one mark all
-unpaired_ahead f some (Element.last_comment one mark all) unpaired = absurd (some refl)
-unpaired_ahead f some (Element.header off str) unpaired = Element.header off (Str-alike Alike.same str)
-unpaired_ahead {o} f some (Element.bracketed_header on str i) unpaired =
-    no_bracketed (nothing_follows {o = o}) f str
-unpaired_ahead f some (Element.pair {key = key} {v = v} front given sep value) unpaired =
-    absurd (unpaired key v refl)
-unpaired_ahead f some (Element.dropped_blanks i) unpaired = absurd (some refl)
-unpaired_ahead f some (Element.dropped_key i begins stops) unpaired = absurd (some refl)
-
-key_front : {o : ParseOption} {k r key : Text} (c : ℕ) (s : Text) → KeyFront o (last_or c s ∷ []) k r key
-    → FollowsFront ((c ∷ []) ++ s) (k ++ r)
-key_front {r = r} c s front = key_follows r (KeyFront-like by_front front)
-
-module _ {o : ParseOption} {x k r key : Text} where
-  pieces_before_key : {c : ℕ} (ps : List Piece) → pieces_items ps ≡ []
-      → KeyFront o (last_or c (pieces_text ps) ∷ []) k r key → ArePieces o c ps (k ++ r) → ArePieces o c ps x
-  pieces_before_key [] gives front ArePieces.none = ArePieces.none
-  pieces_before_key {c} (p ∷ ps) gives front (ArePieces.more e rest) =
-      let parts = empty_front p.gives (pieces_items ps) gives in
-      let later : KeyFront o (last_or (last_or c p.source) (pieces_text ps) ∷ []) k r key =
-      subst (λ z. KeyFront o (z ∷ []) k r key) (last_or-append c p.source (pieces_text ps)) front in
-      ArePieces.more (at (pieces_text ps) later parts.0 e)
-      (pieces_before_key {c = last_or c p.source} ps parts.1 later rest)
-    where
-      at : (t : Text) → KeyFront o (last_or (last_or c p.source) t ∷ []) k r key → p.gives ≡ []
-          → Element o (c ∷ []) p.source (t ++ (k ++ r)) p.gives → Element o (c ∷ []) p.source (t ++ x) p.gives
-      at [] last nothing e =
-          let f = key_front c p.source last in
-          unpaired_ahead f (front_some f) e (λ k v is. let no : Pair k v ∷ [] ≡ [] = sym is ∙ nothing in cc)
-      at (d ∷ t) last nothing e = Element-before BeginAlike.character e
-
-  -- a gap before a key stands before any text
-  pub gap_ahead : {c : ℕ} {g : Text} → KeyFront o (last_or c g ∷ []) k r key → IsGap o c g (k ++ r)
-      → IsGap o c g x
-  gap_ahead {c} front h = record {
-    pieces = h.pieces;
-    whole = h.whole;
-    nothing = h.nothing;
-    are = pieces_before_key h.pieces h.nothing
-        (subst (λ t. KeyFront o (last_or c t ∷ []) k r key) h.whole front) h.are;
-  }
-
-  -- so does what opens a section
-  pub opening_ahead : {c : ℕ} {name : Option Text} {s : Text} → KeyFront o (last_or c s ∷ []) k r key
-      → IsSpan o c (opening name s) (k ++ r) → IsSpan o c (opening name s) x
-  opening_ahead front IsSpan.general = IsSpan.general
-  opening_ahead {c} front (IsSpan.header {name = name} {s = s} e) =
-      let f = key_front c s front in
-      IsSpan.header (unpaired_ahead f (front_some f) e
-      (λ k v is. let no : Header name ∷ [] ≡ Pair k v ∷ [] = is in cc))

@@ -7,7 +7,7 @@ use Rattle.std.proofs.lemmas.List.Folds.{list_all-append}
 use Rattle.std.specs.List.{list_all}
 use Rattle.ini_text.specs.Grammar.CharacterKinds.{BeginsWith, is_blank, is_comment_mark, is_line_end}
 use Rattle.ini_text.specs.Grammar.CharacterKinds.{is_line_feed, line_feed}
-use Rattle.ini_text.specs.Grammar.Elements.{Element, Gap, Given}
+use Rattle.ini_text.specs.Grammar.Elements.{Element}
 use Rattle.ini_text.specs.Grammar.Pieces.{ArePieces, Piece, pieces_items, pieces_text}
 use Rattle.ini_text.specs.Grammar.Positions.{last_or}
 use Rattle.ini_text.specs.Laws.PieceLaws.{BeginAlike}
@@ -20,6 +20,7 @@ use Rattle.ini_edit.specs.Inside.Spans.{IsGap}
 use Rattle.ini_edit.specs.SourceLines.{indentation_at_end}
 use Rattle.ini_edit.proofs.EndingLemmas.{no_feed_by}
 use Rattle.ini_edit.proofs.GapLemmas.{empty_front}
+use Rattle.ini_edit.proofs.QuietLemmas.{Free, Quiet, as_quiet, free}
 
 -- of two ways to part a text one goes further
 pub data Halves (k m s t : Text) : Type 0 where
@@ -106,25 +107,20 @@ no_comment y k x more m s is mark all (LineStarts.before_no_feed end other) =
     false≢true (subst (λ c. is_other c ≡ true) (sym last) (all_last is_other x more other))
 
 module _ {o : ParseOption} {b : Text} (y : ℕ) (k : Text) (x : ℕ) (more : Text) where
-  pub no_element : {s z : Text} {gives : List Given} → Element o b s z gives → s ≡ y ∷ (k ++ x ∷ more)
-      → gives ≡ [] → z ≢ [] → LineStarts (last_or y k) (x ∷ more) → ⊥
-  no_element (Element.gap (Gap.blank_line {w = w} c i q)) is none some starts =
+  pub no_element : {s z : Text} → Quiet o b s z → s ≡ y ∷ (k ++ x ∷ more) → z ≢ []
+      → LineStarts (last_or y k) (x ∷ more) → ⊥
+  no_element (Quiet.anywhere (Free.line {w = w} c i q)) is some starts =
       no_blank_end (last_or y k) (starts_end starts)
       (all_last is_blank y k (all_before is_blank (y ∷ k) w x c more is i.blank))
-  no_element (Element.gap (Gap.before_header {w = w} i)) is none some starts =
+  no_element (Quiet.before_header {w = w} i) is some starts =
       no_blank_end (last_or y k) (starts_end starts)
       (all_last is_blank y k (all_front is_blank (y ∷ k) (x ∷ more)
       (subst (λ t. list_all is_blank t ≡ true) is i.blank)))
-  no_element (Element.gap (Gap.white {c = c} q n)) is none some starts =
+  no_element (Quiet.anywhere (Free.white {c = c} q n)) is some starts =
       let rest : [] ≡ k ++ x ∷ more = cc in some_within k x more (sym rest)
-  no_element (Element.comment {m = m} s one mark all) is none some starts =
+  no_element (Quiet.anywhere (Free.comment {m = m} s one mark all)) is some starts =
       no_comment y k x more m s is mark all starts
-  no_element (Element.last_comment one mark all) is none some starts = some refl
-  no_element (Element.header off str) is none some starts = cc
-  no_element (Element.bracketed_header on str i) is none some starts = cc
-  no_element (Element.pair front key sep value) is none some starts = cc
-  no_element (Element.dropped_blanks i) is none some starts = some refl
-  no_element (Element.dropped_key i begins stops) is none some starts = some refl
+  no_element (Quiet.at_end tail) is some starts = some refl
 
 -- both parts are elements that give nothing
 pub record Parts (o : ParseOption) (c : ℕ) (k m r : Text) : Type 0 where
@@ -166,7 +162,7 @@ module _ {o : ParseOption} where
             rest = subst (λ z. IsGap o z m r) (sym last) parts.rest;
           }
       at (Halves.within x more is also) nothing later =
-          absurd (no_element y k x more e is nothing (some_before (pieces_text ps) r some)
+          absurd (no_element y k x more (as_quiet e nothing) is (some_before (pieces_text ps) r some)
           (starts_front (x ∷ more) (pieces_text ps)
           (subst (LineStarts (last_or y k)) also starts)))
 
@@ -197,20 +193,13 @@ indented_end b (c ∷ w) end blank =
 
 module _ {o : ParseOption} where
   -- an element before an item, whatever follows it, where no blanks indent that
-  element_any : {c : ℕ} {s y x : Text} {gives : List Given} → Element o (c ∷ []) s y gives → gives ≡ []
-      → y ≢ [] → indentation_at_end c s ≡ [] → Element o (c ∷ []) s x gives
-  element_any (Element.gap (Gap.blank_line d i q)) none some bare = Element.gap (Gap.blank_line d i q)
-  element_any {c} (Element.gap (Gap.before_header {w = w} i)) none some bare =
+  quiet_any : {c : ℕ} {s y : Text} (x : Text) → Quiet o (c ∷ []) s y → y ≢ [] → indentation_at_end c s ≡ []
+      → Element o (c ∷ []) s x []
+  quiet_any x (Quiet.anywhere e) some bare = free x e
+  quiet_any {c} x (Quiet.before_header {w = w} i) some bare =
       let empty : w ≡ [] = sym (indented_end c w i.at_line_start i.blank) ∙ bare in
       absurd (false≢true (sym (subst (BeginsWith is_blank) empty i.some)))
-  element_any (Element.gap (Gap.white q n)) none some bare = Element.gap (Gap.white q n)
-  element_any (Element.comment s one mark all) none some bare = Element.comment s one mark all
-  element_any (Element.last_comment one mark all) none some bare = absurd (some refl)
-  element_any (Element.header off str) none some bare = absurd (cc (none))
-  element_any (Element.bracketed_header on str i) none some bare = absurd (cc (none))
-  element_any (Element.pair front key sep value) none some bare = absurd (cc (none))
-  element_any (Element.dropped_blanks i) none some bare = absurd (some refl)
-  element_any (Element.dropped_key i begins stops) none some bare = absurd (some refl)
+  quiet_any x (Quiet.at_end tail) some bare = absurd (some refl)
 
   pieces_any : {c : ℕ} {y x : Text} (ps : List Piece) → pieces_items ps ≡ [] → y ≢ []
       → indentation_at_end c (pieces_text ps) ≡ [] → ArePieces o c ps y → ArePieces o c ps x
@@ -224,8 +213,9 @@ module _ {o : ParseOption} where
       at : (t : Text) → p.gives ≡ [] → indentation_at_end c (p.source ++ t) ≡ []
           → Element o (c ∷ []) p.source (t ++ y) p.gives → Element o (c ∷ []) p.source (t ++ x) p.gives
       at [] none bare e =
-          element_any e none some
-          (ap (indentation_at_end c) (sym (append-nil p.source)) ∙ bare)
+          subst (Element o (c ∷ []) p.source x) (sym none)
+          (quiet_any x (as_quiet e none) some
+          (ap (indentation_at_end c) (sym (append-nil p.source)) ∙ bare))
       at (d ∷ t) none bare e = Element-before BeginAlike.character e
 
   -- a gap that an item follows stands before any other text, where no blanks at its end indent that

@@ -1,21 +1,26 @@
 -- White space at the ends of a text, found character by character, and taken off.
-use Rattle.std.proofs.Common.{◌≡◌, ◌∙◌, ℕ, true, false, ◌&&◌, cond, eqb, List, [], ◌∷◌, ◌++◌, length, refl}
+use Rattle.std.proofs.Common.{◌≡◌, ◌∙◌, ℕ, Bool, true, false, ◌&&◌, cond, eqb, List, [], ◌∷◌, ◌++◌, length, refl}
 use Rattle.std.proofs.Common.{sym}
 use Rattle.std.proofs.Common.{ap, append_assoc}
-use Rattle.std.proofs.lemmas.Bool.{and_parts, and_from, cond-true, cond-false}
+use Rattle.std.proofs.lemmas.Bool.{and_parts, and_from, cond-true}
 use Rattle.std.specs.Char.{is_whitespace}
 use Rattle.std.specs.List.{list_all}
 use Rattle.std.specs.Str.{drop_trailing_whitespace, skip_leading_whitespace}
+use Rattle.ini_text.specs.Grammar.CharacterKinds.{backslash}
+use Rattle.ini_text.specs.Grammar.Positions.{last_or}
 use Rattle.ini_text.specs.Grammar.WhiteSpace.{end_trimmed}
-use Rattle.ini_text.proofs.PlainLemmas.PlainTrimLemmas.{end_trimmed-after}
+use Rattle.ini_text.specs.declared.option.LoneLine.{LoneLine}
+use Rattle.ini_text.specs.declared.option.LoneLine.TheVariants.{RunsOn, Refused}
+use Rattle.ini_text.proofs.LawLemmas.PieceLemmas.{last_or-append}
 use Rattle.ini_edit.specs.Inside.KeyEdges.{BeginsWhite}
+use Rattle.ini_edit.specs.Renamed.{is_key_white}
 
-pub all_more : (w : List ℕ) (c : ℕ) → list_all is_whitespace w ≡ true → is_whitespace c ≡ true
-    → list_all is_whitespace (w ++ c ∷ []) ≡ true
-all_more [] c h white = and_from (is_whitespace c) true white refl
-all_more (d ∷ w) c h white =
-    let parts = and_parts (is_whitespace d) (list_all is_whitespace w) h in
-    and_from (is_whitespace d) _ parts.0 (all_more w c parts.1 white)
+pub all_more : (test : ℕ → Bool) (w : List ℕ) (c : ℕ) → list_all test w ≡ true → test c ≡ true
+    → list_all test (w ++ c ∷ []) ≡ true
+all_more test [] c h white = and_from (test c) true white refl
+all_more test (d ∷ w) c h white =
+    let parts = and_parts (test d) (list_all test w) h in
+    and_from (test d) _ parts.0 (all_more test w c parts.1 white)
 
 -- white space that a text begins with
 pub white_none : (text : List ℕ) → BeginsWhite text text
@@ -26,40 +31,56 @@ pub white_more : {text rest after : List ℕ} (c : ℕ) → BeginsWhite text res
 white_more {after = after} c b is white = record {
   white = b.white ++ c ∷ [];
   whole = b.whole ∙ ap (λ x. b.white ++ x) is ∙ sym (append_assoc b.white (c ∷ []) after);
-  all = all_more b.white c b.all white;
+  all = all_more is_whitespace b.white c b.all white;
 }
 
 -- The text up to `rest` was gone over: `white` is what follows the last character there that isn't white
--- space.
-pub record WhiteSoFar (text white rest : List ℕ) : Type 0 where
+-- space after a key.
+pub record WhiteSoFar (line : LoneLine) (text white rest : List ℕ) : Type 0 where
   pub front : List ℕ
+  pub space : List ℕ
   pub whole : text ≡ front ++ white
-  pub begins : BeginsWhite white rest
-  pub ends : end_trimmed front ≡ front
+  pub begins : white ≡ space ++ rest
+  pub all : list_all (is_key_white line) space ≡ true
+  pub ends : is_key_white line (last_or backslash front) ≡ false
 
-pub so_far_none : (text : List ℕ) → WhiteSoFar text text text
-so_far_none text = record { front = []; whole = refl; begins = white_none text; ends = refl }
+no_backslash_white : (line : LoneLine) → is_key_white line backslash ≡ false
+no_backslash_white RunsOn = refl
+no_backslash_white Refused = refl
 
-module _ {text white rest after : List ℕ} (c : ℕ) (s : WhiteSoFar text white rest)
+pub so_far_none : (line : LoneLine) (text : List ℕ) → WhiteSoFar line text text text
+so_far_none line text = record {
+  front = [];
+  space = [];
+  whole = refl;
+  begins = refl;
+  all = refl;
+  ends = no_backslash_white line;
+}
+
+module _ {line : LoneLine} {text white rest after : List ℕ} (c : ℕ) (s : WhiteSoFar line text white rest)
     (is : rest ≡ c ∷ after) where
-  pub so_far_white : is_whitespace c ≡ true → WhiteSoFar text white after
+  pub so_far_white : is_key_white line c ≡ true → WhiteSoFar line text white after
   so_far_white h = record {
     front = s.front;
+    space = s.space ++ c ∷ [];
     whole = s.whole;
-    begins = white_more c s.begins is h;
+    begins = s.begins ∙ ap (λ x. s.space ++ x) is ∙ sym (append_assoc s.space (c ∷ []) after);
+    all = all_more (is_key_white line) s.space c s.all h;
     ends = s.ends;
   }
 
-  pub so_far_other : is_whitespace c ≡ false → WhiteSoFar text after after
+  pub so_far_other : is_key_white line c ≡ false → WhiteSoFar line text after after
   so_far_other h =
-      let to = s.front ++ s.begins.white in
+      let to = s.front ++ s.space in
       record {
         front = to ++ c ∷ [];
-        whole = s.whole ∙ ap (λ x. s.front ++ x) (s.begins.whole ∙ ap (λ x. s.begins.white ++ x) is)
-            ∙ sym (append_assoc s.front s.begins.white (c ∷ after)) ∙ sym (append_assoc to (c ∷ []) after);
-        begins = white_none after;
-        ends = end_trimmed-after to (c ∷ []) (λ e. cc)
-            (cond-false (is_whitespace c && true) [] (c ∷ []) (rw h refl));
+        space = [];
+        whole = s.whole ∙ ap (λ x. s.front ++ x) (s.begins ∙ ap (λ x. s.space ++ x) is)
+            ∙ sym (append_assoc s.front s.space (c ∷ after)) ∙ sym (append_assoc to (c ∷ []) after);
+        begins = refl;
+        all = refl;
+        ends = ap (is_key_white line) (last_or-append backslash to (c ∷ [])) ∙ h;
       }
 
 -- white space at the ends of a text is taken off

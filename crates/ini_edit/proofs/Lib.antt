@@ -79,6 +79,7 @@ pub mod PutBeforeLemmas
 pub mod PutBeforeSectionLemmas
 pub mod PutFirstLemmas
 pub mod PutFirstSectionLemmas
+pub mod QuietLemmas
 pub mod QuoteLemmas
 pub mod ReadAsLemmas
 pub mod RestPutLemmas

@@ -2,7 +2,6 @@
 use Rattle.std.proofs.Common.{◌≡◌, ℕ, Bool, true, false, if◌then◌else◌, [], ◌∷◌, ◌++◌}
 use Rattle.std.proofs.Common.{append_assoc, inl, inr, refl, subst, sym}
 use Rattle.std.proofs.lemmas.Bool.{and_from, and_parts, both_ways, cases_Bool}
-use Rattle.std.specs.Char.{is_whitespace}
 use Rattle.std.specs.List.{list_all}
 use Rattle.ini_text.specs.Escaping.EscapedTexts.{escaped}
 use Rattle.ini_text.specs.Grammar.CharacterKinds.{is_blank, is_comment_mark, is_inline_white, is_separator}
@@ -12,9 +11,11 @@ use Rattle.ini_text.specs.Grammar.Positions.{starts_line}
 use Rattle.ini_text.specs.Grammar.Values.{Value}
 use Rattle.ini_text.specs.Laws.PieceLaws.{Agree}
 use Rattle.ini_text.specs.Laws.Plain.{IsPlainKey, IsReadBack}
+use Rattle.ini_text.specs.declared.option.LoneLine.{LoneLine}
+use Rattle.ini_text.specs.declared.option.LoneLine.TheVariants.{RunsOn, Refused}
 use Rattle.ini_text.specs.declared.option.ParseOption.{ParseOption}
 use Rattle.ini_text.specs.declared.write.policy.EscapePolicy.{EscapePolicy}
-use Rattle.ini_text.proofs.GrammarLemmas.KindLemmas.{blank_is_white}
+use Rattle.ini_text.proofs.GrammarLemmas.KindLemmas.{blank_inline, blank_is_white}
 use Rattle.ini_text.proofs.LawLemmas.LocalLemmas.{KeyFront-like}
 use Rattle.ini_text.proofs.PlainLemmas.EscapedTextLemmas.{all_read}
 use Rattle.ini_text.proofs.PlainLemmas.PlainPairLemmas.{bare_indented, inline_blanks, key_front}
@@ -22,7 +23,7 @@ use Rattle.ini_text.proofs.PlainLemmas.PlainPairLemmas.{key_some}
 use Rattle.ini.specs.Texts.{Text}
 use Rattle.ini_edit.specs.Inside.Spans.{IsPair}
 use Rattle.ini_edit.specs.Places.{Follows}
-use Rattle.ini_edit.specs.Renamed.{IsPlainBareKey}
+use Rattle.ini_edit.specs.Renamed.{IsPlainBareKey, is_key_white}
 use Rattle.ini_edit.specs.SourceWritten.{Style, new_pair}
 use Rattle.ini_edit.specs.Sources.{PairPiece}
 use Rattle.ini_edit.proofs.CommentLemmas.{begins_front, no_key}
@@ -42,11 +43,17 @@ pub record IsSourceFor (o : ParseOption) (source value : Text) : Type 0 where
       → Value o (w ++ (source ++ t)) r value
   pub own : (t r : Text) → TrailingLines o t r → OwnLines o (source ++ []) (t ++ r)
 
-pub blanks_are_white : (w : Text) → list_all is_blank w ≡ true → list_all is_whitespace w ≡ true
-blanks_are_white [] h = refl
-blanks_are_white (c ∷ w) h =
+-- blanks may stand after a key
+blank_key_white : (line : LoneLine) (c : ℕ) → is_blank c ≡ true → is_key_white line c ≡ true
+blank_key_white RunsOn c h = blank_is_white c h
+blank_key_white Refused c h = blank_inline c h
+
+blanks_key_white : (line : LoneLine) (w : Text) → list_all is_blank w ≡ true
+    → list_all (is_key_white line) w ≡ true
+blanks_key_white line [] h = refl
+blanks_key_white line (c ∷ w) h =
     let parts = and_parts (is_blank c) (list_all is_blank w) h in
-    and_from (is_whitespace c) _ (blank_is_white c parts.0) (blanks_are_white w parts.1)
+    and_from (is_key_white line c) _ (blank_key_white line c parts.0) (blanks_key_white line w parts.1)
 
 module _ {o : ParseOption} {policy : EscapePolicy} (pad : Text) (blank_pad : list_all is_blank pad ≡ true)
     (m : ℕ) (sep : is_separator m ≡ true) (r : Text) where
@@ -55,12 +62,12 @@ module _ {o : ParseOption} {policy : EscapePolicy} (pad : Text) (blank_pad : lis
       → (o.enabled_preserve_key_leading_whitespace ≡ true → indent ≡ []) → starts_line b ≡ true
       → IsPlainBareKey o policy key → KeyFront o b (indent ++ (escaped policy key ++ pad)) (m ∷ r) key
   bare_in [] blank kept start plain =
-      unindented plain pad (blanks_are_white pad blank_pad) m sep r
+      unindented plain pad (blanks_key_white o.line_without_separator pad blank_pad) m sep r
   bare_in {key = key} (c ∷ indent) blank kept start plain =
       elim (cases_Bool o.enabled_preserve_key_leading_whitespace) [
         | inl on ↦ absurd (let no : c ∷ indent ≡ [] = kept on in cc)
         | inr off ↦
-            indented plain pad (blanks_are_white pad blank_pad) m sep r {w = c ∷ indent}
+            indented plain pad (blanks_key_white o.line_without_separator pad blank_pad) m sep r {w = c ∷ indent}
             (escaped policy key ++ []) []
             (record {
               at_line_start = start;
@@ -93,7 +100,7 @@ module _ {o : ParseOption} {policy : EscapePolicy} (pad : Text) (blank_pad : lis
   key_may_follow : {key : Text} → o.enabled_indented_mutiline_value ≡ true → IsReadBack o policy key
       → IsPlainKey o policy key → Follows o ((escaped policy key ++ pad) ++ m ∷ r)
   key_may_follow on read_back (IsPlainKey.bare bare) =
-      follows (record { bare = bare; read_back = read_back }) pad (blanks_are_white pad blank_pad) m sep r
+      follows (record { bare = bare; read_back = read_back }) pad (blanks_key_white o.line_without_separator pad blank_pad) m sep r
   key_may_follow on read_back (IsPlainKey.after_spaces spaces kept off all bare) =
       absurd (both_ways o.enabled_indented_mutiline_value off on)
 

@@ -33,6 +33,7 @@ use Rattle.ini_edit.proofs.CommentSectionLemmas.{Ended, ended}
 use Rattle.ini_edit.proofs.GapLemmas.{gaps_joined}
 use Rattle.ini_edit.proofs.InPlaceLemmas.{in_place-put, in_place-split, joined-append}
 use Rattle.ini_edit.proofs.HeaderLemmas.{header_bracket}
+use Rattle.ini_edit.proofs.QuietLemmas.{as_header}
 use Rattle.ini_edit.proofs.SourcePlaceLemmas.{gap_of-end, gap_put-end, rest_put-end}
 use Rattle.ini_edit.proofs.SourceSpanLemmas.{gap_put_in, last_after_gap, last_of_gap, spans_after_pairs}
 use Rattle.ini_edit.proofs.SourceSpanLemmas.{spans_before_gap}
@@ -94,7 +95,7 @@ bracket_begins (c ∷ s) x h = subst (λ d. is_line_end d ≡ false) (sym (eqb-t
 opening_begins : {o : ParseOption} {c : ℕ} {r : Text} (name : Option Text) (s x : Text) → is_some name ≡ true
     → IsSpan o c (opening name s) r → BeginsWithNo is_line_end (s ++ x)
 opening_begins None s x named is = absurd (false≢true named)
-opening_begins (Some name) s x named (IsSpan.header e) = bracket_begins s x (header_bracket refl e)
+opening_begins (Some name) s x named (IsSpan.header e) = bracket_begins s x (header_bracket (as_header e))
 
 sections_begin : {o : ParseOption} {c : ℕ} (ss : List SectionPiece)
     → list_all (λ t. is_some t.name) ss ≡ true → AreSpans o c (sections_spans ss) []

@@ -1,18 +1,14 @@
 -- A section's first pair put in: its spans, and what stands before them.
-use Rattle.std.proofs.Common.{◌≡◌, ◌∙◌, ◌==◌, ◌||◌, ℕ, Bool, true, false, cond, List, [], ◌∷◌, ◌++◌}
+use Rattle.std.proofs.Common.{◌≡◌, ◌∙◌, ℕ, true, cond, List, [], ◌∷◌, ◌++◌}
 use Rattle.std.proofs.Common.{ap, append_assoc, append-nil, inl, inr, refl}
 use Rattle.std.proofs.Common.{subst, sym}
 use Rattle.std.proofs.lemmas.Bool.{both_ways, cases_Bool, cond-false, cond-true, false≢true, or_left}
-use Rattle.ini_text.specs.Grammar.CharacterKinds.{BeginsWith, BeginsWithNo, carriage_return, is_blank}
+use Rattle.ini_text.specs.Grammar.CharacterKinds.{BeginsWith, BeginsWithNo, is_blank}
 use Rattle.ini_text.specs.Grammar.CharacterKinds.{is_comment_mark, is_line_end, is_line_feed, line_feed}
-use Rattle.ini_text.specs.Grammar.Elements.{Element, Given, Header}
 use Rattle.ini_text.specs.Grammar.Places.{pair_source}
 use Rattle.ini_text.specs.Grammar.Positions.{last_or}
-use Rattle.ini_text.specs.Grammar.Strings.{Closes, Str, bracketed_name_ends}
 use Rattle.ini_text.specs.Laws.PieceLaws.{Agree}
-use Rattle.ini_text.specs.Options.ReadOptions.{backslash_of}
 use Rattle.ini_text.specs.declared.option.ParseOption.{ParseOption}
-use Rattle.ini_text.proofs.LawLemmas.OneAheadLemmas.{Alike, Str-alike}
 use Rattle.ini_text.proofs.LawLemmas.PieceLemmas.{last_or-append}
 use Rattle.ini.specs.Texts.{Text}
 use Rattle.ini_edit.specs.Inside.InPlace.{AreInPlace}
@@ -25,6 +21,7 @@ use Rattle.ini_edit.proofs.InPlaceLemmas.{in_place-join, in_place-like, in_place
 use Rattle.ini_edit.proofs.LineFrontLemmas.{kinds}
 use Rattle.ini_edit.proofs.MakerLemmas.{MakesReadPairs, made_last}
 use Rattle.ini_edit.proofs.HeaderLemmas.{EmptyOrHeader}
+use Rattle.ini_edit.proofs.QuietLemmas.{free}
 use Rattle.ini_edit.proofs.SectionTakenLemmas.{header_alike}
 use Rattle.ini_edit.proofs.SourceAddLemmas.{IsNewEnd, line_ends_gap}
 use Rattle.ini_edit.proofs.SourceSetLemmas.{before_tail}
@@ -66,33 +63,6 @@ module _ (o : ParseOption) (xs zs : List Span) (old kept : Text) (n : PairPiece)
           (sym (append_assoc n.after (joined span_source zs) [])) new.is))
           (AreInPlace.more (IsSpan.is_gap new.is_gap)
           (in_place-like span_source spans_local (header_alike new.header) later))))
-
--- a header before a line end
-pub header_closed : {o : ParseOption} {b s y x name : Text} {gives : List Given} → BeginsWith is_line_end x
-    → gives ≡ Header name ∷ [] → Element o b s y gives → Element o b s x gives
-header_closed begins is (Element.gap g) = absurd (cc (is))
-header_closed begins is (Element.comment s one mark all) = absurd (cc (is))
-header_closed begins is (Element.last_comment one mark all) = absurd (cc (is))
-header_closed begins is (Element.header off str) = Element.header off (Str-alike Alike.same str)
-header_closed {o} {x = x} begins is (Element.bracketed_header on str i) =
-    Element.bracketed_header on (closed x begins str) i
-  where
-    closes : (x : Text) → BeginsWith is_line_end x → Closes bracketed_name_ends x
-    closes [] begins = absurd (false≢true (sym begins))
-    closes (c ∷ x) begins = by (c == line_feed) (c == carriage_return) begins
-      where
-        by : (a b : Bool) → (a || b) ≡ true → (a || (b || false)) ≡ true
-        by true b h = refl
-        by false true h = refl
-        by false false h = h
-
-    closed : {s r v : Text} (x : Text) → BeginsWith is_line_end x
-        → Str (backslash_of o) bracketed_name_ends s r v → Str (backslash_of o) bracketed_name_ends s x v
-    closed x begins (Str.closed row h) = Str.closed row (closes x begins)
-    closed x begins (Str.lone special row h) = absurd (false≢true h)
-header_closed begins is (Element.pair front some sep given) = absurd (cc (is))
-header_closed begins is (Element.dropped_blanks i) = absurd (cc (is))
-header_closed begins is (Element.dropped_key i starts stops) = absurd (cc (is))
 
 -- the text from the place on, and what follows the new pair's line
 module _ {o : ParseOption} {c : ℕ} {gap_text r : Text} {q : GapPlace} {d : ℕ} {ds : Text}

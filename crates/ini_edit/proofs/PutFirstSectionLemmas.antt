@@ -31,9 +31,10 @@ use Rattle.ini_edit.proofs.FirstPlaceLemmas.{StandsIn, begins_gap, first_stands,
 use Rattle.ini_edit.proofs.FirstStaysLemmas.{first_some, first_stays}
 use Rattle.ini_edit.proofs.InPlaceLemmas.{in_place-before, in_place-join, in_place-split, joined-append}
 use Rattle.ini_edit.proofs.MakerLemmas.{MakesReadPairs, made_there}
-use Rattle.ini_edit.proofs.PutFirstLemmas.{first_after, header_closed, line_starts_there, spans_put_first}
+use Rattle.ini_edit.proofs.PutFirstLemmas.{first_after, line_starts_there, spans_put_first}
+use Rattle.ini_edit.proofs.QuietLemmas.{as_header}
 use Rattle.ini_edit.proofs.SectionBeginLemmas.{names_after, sections_begin}
-use Rattle.ini_edit.proofs.HeaderLemmas.{EmptyOrHeader}
+use Rattle.ini_edit.proofs.HeaderLemmas.{EmptyOrHeader, header_closed}
 use Rattle.ini_edit.proofs.SectionTakenLemmas.{same_start}
 use Rattle.ini_edit.proofs.SourceAddLemmas.{IsNewEnd}
 use Rattle.ini_edit.proofs.SourceSpanLemmas.{gap_put_in, spans_after_pairs, spans_before_gap}
@@ -95,7 +96,7 @@ module _ {o : ParseOption} where
           omega (arith, element-some e, n) in
           in_place-join span_source ys (opening (Some name) source ∷ [])
           (in_place-before span_source spans_local (same_start source y x some) before)
-          (AreInPlace.more (IsSpan.header (header_closed begins refl e)) AreInPlace.none)
+          (AreInPlace.more (IsSpan.header (header_closed begins (as_header e))) AreInPlace.none)
 
   general_any : {c : ℕ} {source y : Text} (x : Text) → AreSpans o c (opening None source ∷ []) y
       → AreSpans o c (opening None source ∷ []) x

@@ -18,6 +18,7 @@ use Rattle.ini_edit.specs.Inside.Spans.{opening, pairs_spans, section_spans, sec
 use Rattle.ini_edit.specs.Sources.{SectionPiece, joined}
 use Rattle.ini_edit.proofs.AheadLemmas.{FollowsFront}
 use Rattle.ini_edit.proofs.HeaderLemmas.{EmptyOrHeader, header_bracket}
+use Rattle.ini_edit.proofs.QuietLemmas.{as_header}
 
 -- names
 abbrev pub has_name : SectionPiece → Bool
@@ -55,7 +56,7 @@ module _ {o : ParseOption} where
   bracket_of : {c : ℕ} {t r : Text} (name : Option Text) → is_some name ≡ true
       → IsSpan o c (opening name t) r → BeginsWith (λ c. c == open_bracket) t
   bracket_of None has is = absurd (false≢true has)
-  bracket_of (Some name) has (IsSpan.header e) = header_bracket refl e
+  bracket_of (Some name) has (IsSpan.header e) = header_bracket (as_header e)
 
   pub header_begins : {c : ℕ} {r : Text} (s : SectionPiece) (zs : List Span) → has_name s ≡ true
       → AreSpans o c (section_spans s ++ zs) r → BeginsWith (λ c. c == open_bracket) s.header

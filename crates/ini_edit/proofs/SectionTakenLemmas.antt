@@ -6,14 +6,13 @@ use Rattle.std.specs.Prelude.{◌⊎◌, ⊤}
 use Rattle.std.proofs.lemmas.Bool.{both_ways, false≢true}
 use Rattle.ini_text.specs.Grammar.CharacterKinds.{BeginsWith, is_blank, is_comment_mark, is_line_end}
 use Rattle.ini_text.specs.Grammar.CharacterKinds.{is_line_feed, line_feed}
-use Rattle.ini_text.specs.Grammar.Elements.{Element, Given, Header}
+use Rattle.ini_text.specs.Grammar.Elements.{Element}
 use Rattle.ini_text.specs.Grammar.Pieces.{ArePieces}
 use Rattle.ini_text.specs.Grammar.Places.{Stretches, TrailingLines, pair_source, value_source}
 use Rattle.ini_text.specs.Grammar.Positions.{last_or}
 use Rattle.ini_text.specs.Grammar.Values.{MoreLines, Value}
 use Rattle.ini_text.specs.Laws.PieceLaws.{Agree, BeginAlike}
 use Rattle.ini_text.specs.declared.option.ParseOption.{ParseOption}
-use Rattle.ini_text.proofs.LawLemmas.OneAheadLemmas.{Alike, Str-alike}
 use Rattle.ini_text.proofs.LawLemmas.PieceLemmas.{last_or-append}
 use Rattle.ini_text.proofs.PlainLemmas.PlainLineLemmas.{line_end_gap}
 use Rattle.ini.specs.Texts.{Text}
@@ -23,13 +22,14 @@ use Rattle.ini_edit.specs.Inside.Spans.{span_source}
 use Rattle.ini_edit.specs.Places.{Follows}
 use Rattle.ini_edit.specs.SourceLines.{indentation_at_end}
 use Rattle.ini_edit.specs.Sources.{joined}
-use Rattle.ini_edit.proofs.AheadLemmas.{FollowsFront, no_bracketed, tail_before, value_before}
+use Rattle.ini_edit.proofs.AheadLemmas.{FollowsFront, header_before, tail_before, value_before}
 use Rattle.ini_edit.proofs.DeletedLinesLemmas.{IsLineEnd}
 use Rattle.ini_edit.proofs.EndedLemmas.{line_end-some-after}
 use Rattle.ini_edit.proofs.GapPartLemmas.{LineStarts, gap_any, gap_nothing, gap_parts, some_before}
 use Rattle.ini_edit.proofs.InPlaceLemmas.{in_place-before, in_place-join, in_place-like, in_place-split}
 use Rattle.ini_edit.proofs.OwnBeforeLemmas.{own_ahead, own_before}
-use Rattle.ini_edit.proofs.HeaderLemmas.{EmptyOrHeader, header_follows}
+use Rattle.ini_edit.proofs.HeaderLemmas.{EmptyOrHeader}
+use Rattle.ini_edit.proofs.QuietLemmas.{as_header}
 use Rattle.ini_edit.proofs.SectionRestLemmas.{Rest, Unindented, blanks_no_feed}
 use Rattle.ini_edit.proofs.GapLemmas.{gap_join, gap_like}
 use Rattle.ini_edit.proofs.SpanLemmas.{spans_local}
@@ -57,22 +57,6 @@ same_start [] y x some = absurd (some refl)
 same_start (c ∷ s) y x some = BeginAlike.character
 
 module _ {o : ParseOption} where
-  opening_before : {b s x y name : Text} {gives : List Given} → FollowsFront [] y → gives ≡ Header name ∷ []
-      → Element o b s y gives → Element o b s x gives
-  opening_before {name = name} f is (Element.gap g) = absurd (let no : [] ≡ Header name ∷ [] = is in cc)
-  opening_before {name = name} f is (Element.comment s one mark all) =
-      absurd (let no : [] ≡ Header name ∷ [] = is in cc)
-  opening_before {name = name} f is (Element.last_comment one mark all) =
-      absurd (let no : [] ≡ Header name ∷ [] = is in cc)
-  opening_before f is (Element.header off str) = Element.header off (Str-alike Alike.same str)
-  opening_before f is (Element.bracketed_header on str i) =
-      no_bracketed (header_follows {o = o} EmptyOrHeader.empty) f str
-  opening_before f is (Element.pair front some sep given) = absurd (cc (is))
-  opening_before {name = name} f is (Element.dropped_blanks i) =
-      absurd (let no : [] ≡ Header name ∷ [] = is in cc)
-  opening_before {name = name} f is (Element.dropped_key i begins stops) =
-      absurd (let no : [] ≡ Header name ∷ [] = is in cc)
-
   pub pair_before : {c : ℕ} {p : Stretches} {key value x y : Text} → FollowsFront [] y → Follows o x
       → IsPair o c p key value y → IsPair o c p key value x
   pair_before f follows h = record {
@@ -90,7 +74,7 @@ module _ {o : ParseOption} where
   item_before : {c : ℕ} {s : Span} {x y : Text} → FollowsFront [] y → MayPrecede o s x → IsSpan o c s y
       → IsSpan o c s x
   item_before f may IsSpan.general = IsSpan.general
-  item_before f may (IsSpan.header e) = IsSpan.header (opening_before f refl e)
+  item_before {x = x} f may (IsSpan.header e) = IsSpan.header (header_before x f (as_header e))
   item_before f may (IsSpan.is_pair h) = IsSpan.is_pair (pair_before f may h)
   item_before f may (IsSpan.is_gap h) = absurd may
 

@@ -9,7 +9,6 @@ use Rattle.std.specs.List.{list_all}
 use Rattle.std.specs.Option.{option_or}
 use Rattle.ini_text.specs.Grammar.CharacterKinds.{BeginsWith, BeginsWithNo, is_blank, is_comment_mark}
 use Rattle.ini_text.specs.Grammar.CharacterKinds.{is_line_end, is_line_feed, line_feed, open_bracket}
-use Rattle.ini_text.specs.Grammar.Elements.{Element, Gap, Given}
 use Rattle.ini_text.specs.Grammar.Pieces.{ArePieces, Piece, pieces_items, pieces_text}
 use Rattle.ini_text.specs.Grammar.Positions.{last_or}
 use Rattle.ini_text.specs.declared.option.ParseOption.{ParseOption}
@@ -24,6 +23,7 @@ use Rattle.ini_edit.proofs.DroppedKeyLemmas.{pieces_no_bracket}
 use Rattle.ini_edit.proofs.EndingLemmas.{no_feed_by}
 use Rattle.ini_edit.proofs.GapLemmas.{empty_front}
 use Rattle.ini_edit.proofs.GapPartLemmas.{some_before}
+use Rattle.ini_edit.proofs.QuietLemmas.{Free, Quiet, as_quiet}
 use Rattle.ini_edit.proofs.SourceSetLemmas.{line_end_no_mark}
 
 mark_no_end : (m : ℕ) → is_comment_mark m ≡ true → is_line_end m ≡ false
@@ -77,13 +77,13 @@ data Passes (c : ℕ) (s t : Text) : Type 0 where
       → IsSolid c (s ++ t) → Passes c s t
 
 module _ {o : ParseOption} where
-  passes : {c : ℕ} {s r : Text} {gives : List Given} (t : Text) → Element o (c ∷ []) s r gives → gives ≡ []
-      → r ≢ [] → BeginsWithNo (λ c. c == open_bracket) r → Passes c s t
-  passes t (Element.gap (Gap.blank_line {w = w} d i q)) empty some other =
+  passes : {c : ℕ} {s r : Text} (t : Text) → Quiet o (c ∷ []) s r → r ≢ []
+      → BeginsWithNo (λ c. c == open_bracket) r → Passes c s t
+  passes t (Quiet.anywhere (Free.line {w = w} d i q)) some other =
       Passes.past (ap (from_last_solid false) (append_assoc w (d ∷ []) t) ∙ blanks_past w (d ∷ t) i.blank
       ∙ one_past d t (or_right (is_blank d) (is_line_end d) q) (line_end_no_mark d q))
-  passes t (Element.gap (Gap.before_header i)) empty some other = absurd (false≢true (sym other))
-  passes {c} t (Element.gap (Gap.white {c = d} q n)) empty some other =
+  passes t (Quiet.before_header i) some other = absurd (false≢true (sym other))
+  passes {c} t (Quiet.anywhere (Free.white {c = d} q n)) some other =
       elim (cases_Bool (is_blank_or_line_end d)) [
         | inl blank ↦ Passes.past (one_past d t blank (white_no_mark d q))
         | inr apart ↦
@@ -99,7 +99,7 @@ module _ {o : ParseOption} where
               column = λ mark. absurd (both_ways (is_comment_mark d) (white_no_mark d q) mark);
             })
       ]
-  passes {c} t (Element.comment {m = m} s one mark all) empty some other =
+  passes {c} t (Quiet.anywhere (Free.comment {m = m} s one mark all)) some other =
       let no_feed = no_feed_by is_comment_mark m refl mark in
       let apart = comment_mark-apart m mark in
       let line = mark_no_end m mark in
@@ -114,12 +114,7 @@ module _ {o : ParseOption} where
       ∙ ap (λ z. option_or (from_last_solid false t) (Some (m ∷ z)))
       (sym (append_assoc s (line_feed ∷ []) t)))
       (record { no_blank = apart.0; no_end = line; column = λ _. one })
-  passes t (Element.last_comment one mark all) empty some other = absurd (some refl)
-  passes t (Element.header off str) empty some other = absurd (cc (empty))
-  passes t (Element.bracketed_header on str i) empty some other = absurd (cc (empty))
-  passes t (Element.pair front name sep value) empty some other = absurd (cc (empty))
-  passes t (Element.dropped_blanks i) empty some other = absurd (some refl)
-  passes t (Element.dropped_key i begins stops) empty some other = absurd (some refl)
+  passes t (Quiet.at_end tail) some other = absurd (some refl)
 
 source_some : (s : Text) → 1 ≤ length s → (t : Text) → s ++ t ≡ [] → ⊥
 source_some [] h t is = omega arith
@@ -141,7 +136,7 @@ module _ {o : ParseOption} {y : Text} (some : y ≢ []) (other : BeginsWithNo (�
   solid_cut [] g empty keyless are is = absurd (let no : None ≡ Some g = is in cc)
   solid_cut {c} (p ∷ ps) g empty keyless (ArePieces.more e rest) is =
       let parts = empty_front p.gives (pieces_items ps) empty in
-      at (passes (pieces_text ps) e parts.0 (some_before (pieces_text ps) y some)
+      at (passes (pieces_text ps) (as_quiet e parts.0) (some_before (pieces_text ps) y some)
       (other_before (pieces_text ps) (pieces_no_bracket ps parts.1 rest)))
       (λ is. solid_cut {c = last_or c p.source} ps g parts.1 keyless.1 rest is)
     where

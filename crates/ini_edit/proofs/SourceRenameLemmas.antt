@@ -8,7 +8,6 @@ use Rattle.std.specs.List.{list_all}
 use Rattle.std.specs.Prelude.{is_some}
 use Rattle.ini_text.specs.Escaping.EscapedTexts.{escaped}
 use Rattle.ini_text.specs.Grammar.CharacterKinds.{BeginsWith, close_bracket, line_feed, open_bracket}
-use Rattle.ini_text.specs.Grammar.Elements.{Element, Given, Header}
 use Rattle.ini_text.specs.Grammar.Places.{pair_source, value_source}
 use Rattle.ini_text.specs.Grammar.Positions.{last_or}
 use Rattle.ini_text.specs.Laws.PieceLaws.{Agree, BeginAlike}
@@ -33,6 +32,7 @@ use Rattle.ini_edit.proofs.FirstLemmas.{changed_first, first_stands, renamed_fir
 use Rattle.ini_edit.proofs.HeaderLemmas.{header_anew, header_bracket, plain_closes, str_closes}
 use Rattle.ini_edit.proofs.InPlaceLemmas.{in_place-before, in_place-exchanged, in_place-put, in_place-split}
 use Rattle.ini_edit.proofs.NewKeyLemmas.{in_place}
+use Rattle.ini_edit.proofs.QuietLemmas.{IsHeader, as_header}
 use Rattle.ini_edit.proofs.SourceReadLemmas.{sections_spans-append}
 use Rattle.ini_edit.proofs.SourceSetLemmas.{as_edit, changed_sections, closed_agrees, found_there}
 use Rattle.ini_edit.proofs.SourceSetLemmas.{last_agrees}
@@ -186,26 +186,15 @@ module _ {o : ParseOption} {policy : EscapePolicy} {other : Text} (plain : IsPla
   )
 
 -- after another header the rest is read as before
-header_agrees : {o : ParseOption} {b s r old z : Text} {gives : List Given} (c : ℕ) (t : Text)
-    → gives ≡ Header old ∷ [] → Element o b s r gives → r ≡ z
+header_agrees : {o : ParseOption} {s r z name : Text} (c : ℕ) (t : Text) → IsHeader o s r name → r ≡ z
     → Agree (last_or c s ∷ []) (last_or c (open_bracket ∷ (t ++ close_bracket ∷ [])) ∷ []) z
-header_agrees {old = old} c t is (Element.gap g) same = absurd (let no : [] ≡ Header old ∷ [] = is in cc)
-header_agrees {old = old} c t is (Element.comment s one mark all) same =
-    absurd (let no : [] ≡ Header old ∷ [] = is in cc)
-header_agrees {old = old} c t is (Element.last_comment one mark all) same =
-    absurd (let no : [] ≡ Header old ∷ [] = is in cc)
-header_agrees c t is (Element.header {s = s} off str) same =
+header_agrees c t (IsHeader.plain {s = s} off str) same =
     last_agrees (last_or-append open_bracket s (close_bracket ∷ [])
     ∙ sym (last_or-append open_bracket t (close_bracket ∷ [])))
-header_agrees c t is (Element.bracketed_header {s = s} {r = r} on str i) same =
+header_agrees c t (IsHeader.bracketed {s = s} {r = r} on str i) same =
     subst (Agree (last_or c (open_bracket ∷ s) ∷ [])
     (last_or c (open_bracket ∷ (t ++ close_bracket ∷ [])) ∷ [])) same
     (closed_agrees r (plain_closes r (str_closes str)))
-header_agrees c t is (Element.pair front some sep given) same = absurd (cc (is))
-header_agrees {old = old} c t is (Element.dropped_blanks i) same =
-    absurd (let no : [] ≡ Header old ∷ [] = is in cc)
-header_agrees {old = old} c t is (Element.dropped_key i begins stops) same =
-    absurd (let no : [] ≡ Header old ∷ [] = is in cc)
 
 -- headers begin alike
 headers_begin : (s t r : Text) → BeginsWith (λ c. c == open_bracket) s
@@ -237,14 +226,14 @@ module _ {o : ParseOption} (policy : EscapePolicy) (other : Text) (plain : IsPla
       at (AreInPlace.more (IsSpan.header e) later) =
           in_place-exchanged span_source spans_local front (opening (Some old) header ∷ [])
           (named ∷ []) rest h
-          (AreInPlace.more (IsSpan.header (header_anew policy other plain refl e)) AreInPlace.none)
+          (AreInPlace.more (IsSpan.header (header_anew policy other plain (as_header e))) AreInPlace.none)
           (headers_begin header (escaped policy other ++ close_bracket ∷ []) (following ++ [])
-          (header_bracket refl e))
+          (header_bracket (as_header e)))
           (subst (λ t. Agree (last_or c t ∷ []) (last_or c (header_of policy other ++ []) ∷ []) following)
           (sym (append-nil header))
           (subst (λ t. Agree (last_or c header ∷ []) (last_or c t ∷ []) following)
           (sym (append-nil (header_of policy other)))
-          (header_agrees c (escaped policy other) refl e (append-nil following))))
+          (header_agrees c (escaped policy other) (as_header e) (append-nil following))))
 
   -- and the sections
   begin-named : (ss : List SectionPiece) (s t : SectionPiece) (rest : List SectionPiece) {old : Text}

@@ -1,31 +1,28 @@
 -- What stands before a place of a text in pieces stands there before other texts too.
-use Rattle.std.proofs.Common.{◌≡◌, ◌≢◌, ◌∙◌, ◌≤◌, ℕ, List, [], ◌∷◌, ◌++◌, None, Option}
-use Rattle.std.proofs.Common.{Some, ap, append-nil, arith, inl, inr, length, refl, subst, sym}
-use Rattle.std.proofs.lemmas.Bool.{false≢true}
+use Rattle.std.proofs.Common.{◌≡◌, ◌∙◌, ◌≤◌, ℕ, List, [], ◌∷◌, ◌++◌, None, Option}
+use Rattle.std.proofs.Common.{Some, ap, append-nil, arith, length, refl, subst, sym}
 use Rattle.ini_text.specs.Grammar.CharacterKinds.{line_feed}
-use Rattle.ini_text.specs.Grammar.Elements.{Element, Gap, Given, Header, Pair}
+use Rattle.ini_text.specs.Grammar.Elements.{Element}
 use Rattle.ini_text.specs.Grammar.Keys.{KeyFront}
 use Rattle.ini_text.specs.Grammar.Pieces.{ArePieces, Piece, pieces_items, pieces_text}
 use Rattle.ini_text.specs.Grammar.Places.{pair_source}
 use Rattle.ini_text.specs.Grammar.Positions.{last_or}
-use Rattle.ini_text.specs.Grammar.Strings.{Str, bracketed_name_ends}
 use Rattle.ini_text.specs.Laws.PieceLaws.{BeginAlike}
-use Rattle.ini_text.specs.Options.Backslashes.{Backslash}
 use Rattle.ini_text.specs.declared.option.ParseOption.{ParseOption}
 use Rattle.ini_text.proofs.GrammarLemmas.ItemLemmas.{element-some}
 use Rattle.ini_text.proofs.LawLemmas.LocalLemmas.{Element-before}
-use Rattle.ini_text.proofs.LawLemmas.OneAheadLemmas.{Alike, Str-alike}
 use Rattle.ini_text.proofs.LawLemmas.PieceLemmas.{last_or-append}
 use Rattle.ini.specs.Texts.{Text}
 use Rattle.ini_edit.specs.Inside.InPlace.{AreInPlace}
 use Rattle.ini_edit.specs.Inside.Spans.{AreSpans, IsGap, IsSpan, Span, opening, span_source}
 use Rattle.ini_edit.specs.Places.{Follows}
 use Rattle.ini_edit.specs.Sources.{joined}
-use Rattle.ini_edit.proofs.AheadLemmas.{FollowsFront, blank_no_column, closes_no_line, key_follows}
+use Rattle.ini_edit.proofs.AheadLemmas.{FollowsFront, header_before, key_follows, nothing_before}
 use Rattle.ini_edit.proofs.AheadLemmas.{tail_before, value_before}
 use Rattle.ini_edit.proofs.AheadLemmas as ahead
 use Rattle.ini_edit.proofs.InPlaceLemmas.{in_place-before, in_place-join, in_place-split, joined-append}
 use Rattle.ini_edit.proofs.OwnBeforeLemmas.{own_ahead}
+use Rattle.ini_edit.proofs.QuietLemmas.{as_header}
 use Rattle.ini_edit.proofs.SourceReadLemmas.{empty_parts}
 use Rattle.ini_edit.proofs.SpanLemmas.{span_before, spans_local}
 
@@ -99,53 +96,25 @@ pub spans_ahead : {o : ParseOption} {x : Text} (follows : Follows o x) {k r key 
 spans_ahead follows {k} {r} xs front are = spans_follow follows xs (key_follows r front) are
 
 -- and what is no pair, before any text at all
-no_text : {X : Type 0} {c : Text} → FollowsFront c [] → X
-no_text f = absurd (false≢true (sym f.some))
-
-no_bracketed : {X : Type 0} {c s v : Text} {e : Backslash} (y : Text) → FollowsFront c y
-    → Str e bracketed_name_ends s y v → X
-no_bracketed [] f str = no_text f
-no_bracketed (d ∷ y) f (Str.closed row h) = closes_no_line (d ∷ y) f.some h
-
-nothing_paired : {gives : List Given} → gives ≡ [] → (key value : Text) → gives ≢ Pair key value ∷ []
-nothing_paired none key value is = let other : [] ≡ Pair key value ∷ [] = sym none ∙ is in cc
-
 general_free : {o : ParseOption} {c : ℕ} {s y : Text} (x : Text) → AreSpans o c (opening None s ∷ []) y
     → AreSpans o c (opening None s ∷ []) x
 general_free x (AreInPlace.more IsSpan.general AreInPlace.none) = AreInPlace.more IsSpan.general
     AreInPlace.none
 
 module _ {o : ParseOption} (x : Text) where
-  unpaired : {b s y : Text} {gives : List Given} → FollowsFront (b ++ s) y
-      → ((key value : Text) → gives ≢ Pair key value ∷ []) → Element o b s y gives → Element o b s x gives
-  unpaired f apart (Element.gap (Gap.blank_line c i h)) = Element.gap (Gap.blank_line c i h)
-  unpaired {b} f apart (Element.gap (Gap.before_header {w = w} i)) = elim f.bracket [
-    | inl other ↦ absurd (false≢true (sym other))
-    | inr one ↦ absurd (blank_no_column b w i.some i.blank one)
-  ]
-  unpaired f apart (Element.gap (Gap.white h n)) = Element.gap (Gap.white h n)
-  unpaired f apart (Element.comment s one mark all) = Element.comment s one mark all
-  unpaired f apart (Element.last_comment one mark all) = no_text f
-  unpaired f apart (Element.header off str) = Element.header off (Str-alike Alike.same str)
-  unpaired f apart (Element.bracketed_header on str i) = no_bracketed _ f str
-  unpaired f apart (Element.pair {key = key} {v = v} front some sep given) = absurd (apart key v refl)
-  unpaired f apart (Element.dropped_blanks i) = no_text f
-  unpaired f apart (Element.dropped_key i begins_key stops) = no_text f
-
   pieces_free : {c : ℕ} {y : Text} (ps : List Piece) → pieces_items ps ≡ []
       → FollowsFront (last_or c (pieces_text ps) ∷ []) y → ArePieces o c ps y → ArePieces o c ps x
   pieces_free [] none f ArePieces.none = ArePieces.none
   pieces_free {c} {y} (p ∷ ps) none f (ArePieces.more e rest) =
       let each = empty_parts p.gives (pieces_items ps) none in
       let later = follows_last c p.source (pieces_text ps) f in
-      ArePieces.more (at (pieces_text ps) (nothing_paired each.0) later e)
+      ArePieces.more (at (pieces_text ps) each.0 later e)
       (pieces_free {c = last_or c p.source} ps each.1 later rest)
     where
-      at : (t : Text) → ((key value : Text) → p.gives ≢ Pair key value ∷ [])
-          → FollowsFront (last_or (last_or c p.source) t ∷ []) y
+      at : (t : Text) → p.gives ≡ [] → FollowsFront (last_or (last_or c p.source) t ∷ []) y
           → Element o (c ∷ []) p.source (t ++ y) p.gives → Element o (c ∷ []) p.source (t ++ x) p.gives
-      at [] apart f e = unpaired (follows_at c p.source f) apart e
-      at (d ∷ t) apart f e = Element-before BeginAlike.character e
+      at [] none f e = nothing_before x (follows_at c p.source f) none e
+      at (d ∷ t) none f e = Element-before BeginAlike.character e
 
   pub gap_free : {c : ℕ} {g y : Text} → FollowsFront (last_or c g ∷ []) y → IsGap o c g y → IsGap o c g x
   gap_free {c} {y = y} f h = record {
@@ -154,6 +123,11 @@ module _ {o : ParseOption} (x : Text) where
     nothing = h.nothing;
     are = pieces_free h.pieces h.nothing (subst (λ t. FollowsFront (last_or c t ∷ []) y) h.whole f) h.are;
   }
+
+  pub opening_ahead : {c : ℕ} {b y s : Text} {name : Option Text} → FollowsFront b y
+      → IsSpan o c (opening name s) y → IsSpan o c (opening name s) x
+  opening_ahead f IsSpan.general = IsSpan.general
+  opening_ahead f (IsSpan.header e) = IsSpan.header (header_before x f (as_header e))
 
   -- the same of all up to a section's opening
   pub opening_free : {y : Text} (ys : List Span) (name : Option Text) (s : Text) → (name ≡ None → ys ≡ [])
@@ -180,8 +154,6 @@ module _ {o : ParseOption} (x : Text) where
           → FollowsFront (last_or (last_or line_feed (joined span_source ys)) s ∷ []) y
           → AreSpans o line_feed (ys ++ opening (Some name) s ∷ []) x
       at before (AreInPlace.more (IsSpan.header e) AreInPlace.none) f =
-          let new = unpaired (follows_at (last_or line_feed (joined span_source ys)) s f)
-          (λ key value is. let other : Header name ∷ [] ≡ Pair key value ∷ [] = is in cc) e in
           in_place-join span_source ys (opening (Some name) s ∷ [])
           (in_place-before span_source spans_local (alike s (element-some e)) before)
-          (AreInPlace.more (IsSpan.header new) AreInPlace.none)
+          (AreInPlace.more (IsSpan.header (header_before x f (as_header e))) AreInPlace.none)

@@ -39,6 +39,7 @@ use Rattle.ini_edit.proofs.DeletedPairLemmas.{gap_stands, last_of_pair, multilin
 use Rattle.ini_edit.proofs.DeletedPairLemmas.{section_stands, with_lines}
 use Rattle.ini_edit.proofs.InPlaceLemmas.{in_place-split, joined-append}
 use Rattle.ini_edit.proofs.HeaderLemmas.{header_bracket}
+use Rattle.ini_edit.proofs.QuietLemmas.{as_header}
 use Rattle.ini_edit.proofs.SourceDeleteLemmas.{StandsBefore, StaysOf, spans_deleted}
 use Rattle.ini_edit.proofs.SourcePlaceLemmas.{rest_put-end}
 use Rattle.ini_edit.proofs.SourceReadLemmas.{begin-same, pairs_spans-append, sections_spans-append}
@@ -295,7 +296,7 @@ items_unmarked [] (t ∷ rest) named h = at t.name refl h
         by (AreInPlace.more (IsSpan.header e) later) =
             bracket_unmarked t.header (t.after ++ joined span_source
             (pairs_spans t.pairs ++ sections_spans rest))
-            (header_bracket refl e)
+            (header_bracket (as_header e))
 items_unmarked (q ∷ later) rest named (AreInPlace.more (IsSpan.is_pair is) more) =
     let following = q.after ++ joined span_source (pairs_spans later ++ sections_spans rest) in
     unmarked_by (pair_source q.stretches ++ following)

@@ -4,11 +4,14 @@ use Rattle.std.proofs.Common.{append-nil, append_assoc, ap, refl, subst, subst�
 use Rattle.std.proofs.Common.{length-append}
 use Rattle.std.specs.Str.{chars}
 use Rattle.std.specs.Prelude.{◌↔◌}
-use Rattle.std.proofs.lemmas.Bool.{and_parts, both_ways, false≢true}
+use Rattle.std.proofs.lemmas.Bool.{and_from, and_parts, both_ways, false≢true, or_right}
 use Rattle.std.proofs.lemmas.List.{append_cancel_left}
 use Rattle.std.proofs.lemmas.List.Folds.{list_all-append}
 use Rattle.std.specs.List.{list_all}
-use Rattle.ini_text.specs.Options.Backslashes.{Backslash}
+use Rattle.ini_text.specs.Options.Backslashes.{Backslash, begins_escape, is_special}
+use Rattle.ini_text.specs.Options.ReadOptions.{backslash_of}
+use Rattle.ini_text.specs.declared.option.LoneLine.{LoneLine}
+use Rattle.ini_text.specs.declared.option.LoneLine.TheVariants.{RunsOn, Refused}
 use Rattle.ini_text.specs.declared.option.ParseOption.{ParseOption}
 use Rattle.ini_text.specs.declared.error.ParseKind.{ParseKind}
 use Rattle.ini_text.specs.declared.parser.placed.Content.{Content}
@@ -27,6 +30,7 @@ use Rattle.ini_text.specs.Inside.ElementReader.{element}
 use Rattle.ini_text.specs.Inside.Reading.{found, stopped}
 use Rattle.ini_text.specs.Parsing.Items.{cow_text}
 use Rattle.ini_text.specs.Parsing.Places.{HasPlaces, StandsBetween, StopsAfter, gives}
+use Rattle.ini_text.proofs.PlainLemmas.PlainPairLemmas.{separator_closes}
 use Rattle.ini_text.proofs.ReaderLemmas.ElementReaderLemmas.{element-finds, element-stops}
 use Rattle.ini.specs.Texts.{Text}
 use Rattle.ini_edit.specs.Inside.SourceEnds.{GivesValue, MatchesPair}
@@ -34,56 +38,59 @@ use Rattle.ini_edit.specs.SourceWritten.{IsReadAs, tried_key, tried_line}
 use Rattle.ini_edit.proofs.OwnLineLemmas.{own_one}
 use Rattle.ini_edit.proofs.ReadAsLemmas.{no_lead, read_starts}
 
--- white space at the end of a value's own lines stands after the value, unless a backslash stands before it
-is_bare : ℕ → Bool
-is_bare c = not (is_inline_white c || c == backslash)
+-- White space at the end of a value's own lines stands after the value, unless a backslash takes it along.
+is_bare : Backslash → ℕ → Bool
+is_bare b c = not (is_inline_white c || begins_escape b c)
 
-white_last : (d : ℕ) (a : Text) → is_bare d ≡ false → list_all is_inline_white a ≡ true
-    → is_bare (last_or d a) ≡ false
+white_last : (b : Backslash) (d : ℕ) (a : Text) → is_bare b d ≡ false → list_all is_inline_white a ≡ true
+    → is_bare b (last_or d a) ≡ false
 unfolding is_bare
-white_last d [] h all = h
-white_last d (c ∷ a) h all =
+white_last b d [] h all = h
+white_last b d (c ∷ a) h all =
     let parts = and_parts (is_inline_white c) (list_all is_inline_white a) all in
-    white_last c a (ap (λ b. not (b || c == backslash)) parts.0) parts.1
+    white_last b c a (ap (λ x. not (x || begins_escape b c)) parts.0) parts.1
 
 slash_no_white : {X : Type 0} (f w : Text) → list_all is_inline_white (f ++ backslash ∷ w) ≡ true → X
 slash_no_white [] w all = absurd (false≢true all)
 slash_no_white (c ∷ f) w all =
     slash_no_white f w (and_parts (is_inline_white c) (list_all is_inline_white (f ++ backslash ∷ w)) all).1
 
-escaped_end : (d : ℕ) (a x f w : Text) → a ++ x ≡ f ++ backslash ∷ w → list_all is_inline_white x ≡ true
-    → list_all is_inline_white w ≡ true → is_bare (last_or d a) ≡ false
+escaped_end : (b : Backslash) (d : ℕ) (a x f w : Text) → is_special b ≡ true → a ++ x ≡ f ++ backslash ∷ w
+    → list_all is_inline_white x ≡ true → list_all is_inline_white w ≡ true
+    → is_bare b (last_or d a) ≡ false
 unfolding is_bare
-escaped_end d [] x f w same white all =
+escaped_end b d [] x f w special same white all =
     slash_no_white f w (subst (λ z. list_all is_inline_white z ≡ true) same white)
-escaped_end d (c ∷ a) x [] w same white all =
+escaped_end b d (c ∷ a) x [] w special same white all =
     let slash : c ≡ backslash = cc in
     let rest : a ++ x ≡ w = cc in
-    white_last c a (rw slash refl)
+    white_last b c a
+    (ap not (or_right (is_inline_white c) _ (and_from (c == backslash) (is_special b) (rw slash refl) special)))
     (and_parts (list_all is_inline_white a) (list_all is_inline_white x)
     (sym (list_all-append is_inline_white a x) ∙ ap (list_all is_inline_white) rest ∙ all)).0
-escaped_end d (c ∷ a) x (e ∷ f) w same white all =
+escaped_end b d (c ∷ a) x (e ∷ f) w special same white all =
     let rest : a ++ x ≡ f ++ backslash ∷ w = cc in
-    escaped_end c a x f w rest white all
+    escaped_end b c a x f w special rest white all
 
-white_end : (d : ℕ) (a x : Text) (c : ℕ) → list_all is_inline_white (c ∷ x) ≡ true
-    → is_bare (last_or d (a ++ c ∷ x)) ≡ false
+white_end : (b : Backslash) (d : ℕ) (a x : Text) (c : ℕ) → list_all is_inline_white (c ∷ x) ≡ true
+    → is_bare b (last_or d (a ++ c ∷ x)) ≡ false
 unfolding is_bare
-white_end d [] x c all =
+white_end b d [] x c all =
     let parts = and_parts (is_inline_white c) (list_all is_inline_white x) all in
-    white_last c x (ap (λ b. not (b || c == backslash)) parts.0) parts.1
-white_end d (e ∷ a) x c all = white_end e a x c all
+    white_last b c x (ap (λ z. not (z || begins_escape b c)) parts.0) parts.1
+white_end b d (e ∷ a) x c all = white_end b e a x c all
 
-space_none : {a x source : Text} → SpaceAfter source [] → SpaceAfter a x → a ++ x ≡ source → a ≡ source
+space_none : {b : Backslash} {a x source : Text} → SpaceAfter b source [] → SpaceAfter b a x
+    → a ++ x ≡ source → a ≡ source
 unfolding is_bare
-space_none {a} (SpaceAfter.bare bare none) (SpaceAfter.bare {space_after = []} ends all) same =
+space_none {a = a} (SpaceAfter.bare bare none) (SpaceAfter.bare {space_after = []} ends all) same =
     sym (append-nil a) ∙ same
-space_none {a} (SpaceAfter.bare bare none) (SpaceAfter.bare {space_after = c ∷ x} ends all) same =
-    absurd (both_ways _ (white_end line_feed a x c all) (ap ends_bare same ∙ bare))
-space_none (SpaceAfter.escaped front white all)
+space_none {b} {a} (SpaceAfter.bare bare none) (SpaceAfter.bare {space_after = c ∷ x} ends all) same =
+    absurd (both_ways _ (white_end b line_feed a x c all) (ap (ends_bare b) same ∙ bare))
+space_none {b} (SpaceAfter.escaped front white special all)
     (SpaceAfter.bare {raw_value = a} {space_after = x} ends blank) same =
-    absurd (both_ways _ (escaped_end line_feed a x front white same blank all) ends)
-space_none {a} one (SpaceAfter.escaped front white all) same = sym (append-nil a) ∙ same
+    absurd (both_ways _ (escaped_end b line_feed a x front white special same blank all) ends)
+space_none {a = a} one (SpaceAfter.escaped front white special all) same = sym (append-nil a) ∙ same
 
 -- the key and what separates it
 record KeyTried (key : Text) (m : ℕ) (r rest given : Text) : Type 0 where
@@ -99,7 +106,7 @@ escape_begins (EscapeSequence.coded on is) = (_, refl)
 escape_begins (EscapeSequence.itself on n m none) = (_, refl)
 escape_begins (EscapeSequence.kept off n) = (_, refl)
 
-no_escape : {X : Type 0} {e : Bool} {p w : Text} (c : ℕ) (s r : Text) → EscapeSequence e p w
+pub no_escape : {X : Type 0} {e : Bool} {p w : Text} (c : ℕ) (s r : Text) → EscapeSequence e p w
     → (c == backslash) ≡ false → p ++ s ≡ c ∷ r → X
 no_escape c s r is apart same =
     let x = escape_begins is in
@@ -108,29 +115,37 @@ no_escape c s r is apart same =
     absurd (false≢true (sym apart ∙ rw slash refl))
 
 -- a row up to the separator
-row_empty : {e : Backslash} {s v rest : Text} (m : ℕ) (r : Text) → Row e key_ends s v
+row_empty : {e : Backslash} (line : LoneLine) {s v rest : Text} (m : ℕ) (r : Text) → Row e (key_ends line) s v
     → s ++ m ∷ r ≡ equals ∷ rest → (s ≡ []) × (v ≡ [])
-row_empty m r Row.none same = (refl, refl)
-row_empty m r (Row.raw {c} n inside row) same =
+row_empty line m r Row.none same = (refl, refl)
+row_empty line m r (Row.raw {c} n inside row) same =
     let is : c ≡ equals = cc in
-    absurd (both_ways (is_endpoint key_ends c) inside (rw is refl))
-row_empty {rest = rest} m r (Row.escape {p = p} {s = s} special is row) same =
+    absurd (both_ways (is_endpoint (key_ends line) c) inside
+    (subst (λ z. is_endpoint (key_ends line) z ≡ true) (sym is)
+    (separator_closes line equals refl)))
+row_empty line {rest = rest} m r (Row.escape {p = p} {s = s} special is row) same =
     no_escape equals (s ++ m ∷ r) rest is refl (sym (append_assoc p s (m ∷ r)) ∙ same)
 
-row_key : {e : Backslash} {s v r rest : Text} {m : ℕ} → Row e key_ends s v → is_endpoint key_ends m ≡ true
+no_end_tried : (line : LoneLine) → is_endpoint (key_ends line) 107 ≡ false
+no_end_tried RunsOn = refl
+no_end_tried Refused = refl
+
+row_key : {e : Backslash} (line : LoneLine) {s v r rest : Text} {m : ℕ} → Row e (key_ends line) s v
+    → is_endpoint (key_ends line) m ≡ true
     → s ++ m ∷ r ≡ tried_key ++ equals ∷ rest → (s ≡ tried_key) × (v ≡ tried_key) × (m ∷ r ≡ equals ∷ rest)
-row_key {m = m} Row.none ends same =
+row_key line {m = m} Row.none ends same =
     let is : m ≡ 107 = cc in
-    absurd (both_ways (is_endpoint key_ends m) (rw is refl) ends)
-row_key {r = r} {rest} {m} (Row.raw {c} {s} {v} n inside row) ends same =
+    absurd (both_ways (is_endpoint (key_ends line) m)
+    (subst (λ z. is_endpoint (key_ends line) z ≡ false) (sym is) (no_end_tried line)) ends)
+row_key line {r = r} {rest} {m} (Row.raw {c} {s} {v} n inside row) ends same =
     let is : c ≡ 107 = cc in
     let more : s ++ m ∷ r ≡ equals ∷ rest = cc in
-    let x = row_empty m r row more in (
+    let x = row_empty line m r row more in (
       ap (λ z. c ∷ z) x.0 ∙ ap (λ z. z ∷ []) is,
       ap (λ z. c ∷ z) x.1 ∙ ap (λ z. z ∷ []) is,
       ap (λ z. z ++ m ∷ r) (sym x.0) ∙ more,
     )
-row_key {r = r} {rest} {m} (Row.escape {p = p} {s = s} special is row) ends same =
+row_key line {r = r} {rest} {m} (Row.escape {p = p} {s = s} special is row) ends same =
     no_escape 107 (s ++ m ∷ r) (equals ∷ rest) is refl (sym (append_assoc p s (m ∷ r)) ∙ same)
 
 blank_apart : {X : Type 0} (w y rest : Text) → BeginsWith is_blank w → w ++ y ≡ tried_key ++ equals ∷ rest → X
@@ -142,7 +157,7 @@ blank_apart (c ∷ w) y rest begins same =
 key_tried : {o : ParseOption} {key r given rest : Text} {m : ℕ} → KeyFront o [] key (m ∷ r) given
     → key ++ m ∷ r ≡ tried_key ++ equals ∷ rest → KeyTried key m r rest given
 key_tried {o} {r = r} {rest = rest} {m} (KeyFront.unindented {v = v} begins (Str.closed row ends)) same =
-    let x = row_key row ends same in
+    let x = row_key o.line_without_separator row ends same in
     let after : m ∷ r ≡ equals ∷ rest = x.2 in
     record {
       key_is = x.0;
@@ -221,13 +236,13 @@ module _ (source : Text) where
       ∙ ap (λ y. c ∷ (y ++ (source ++ z))) (sym none) ∙ same in
       no_white_feed c (shifted c line_feed source whole) parts.0
 
-after_none : {source after : Text} (z : Text) → SpaceAfter source after → after ++ z ≡ line_feed ∷ []
-    → after ≡ []
+after_none : {b : Backslash} {source after : Text} (z : Text) → SpaceAfter b source after
+    → after ++ z ≡ line_feed ∷ [] → after ≡ []
 after_none z (SpaceAfter.bare {space_after = []} ends all) same = refl
 after_none z (SpaceAfter.bare {space_after = c ∷ x} ends all) same =
     let is : c ≡ line_feed = cc in
     no_white_feed c is (and_parts (is_inline_white c) (list_all is_inline_white x) all).0
-after_none z (SpaceAfter.escaped front white all) same = refl
+after_none z (SpaceAfter.escaped front white special all) same = refl
 
 -- what follows the raw value
 abbrev after_raw : Stretches → Text → Text
@@ -267,7 +282,7 @@ module _ {o : ParseOption} {p : Stretches} {r key value : Text} (source : Text)
       (ap (λ z. z ++ after_raw p r) (sym same)
       ∙ ap (λ z. z ++ (p.raw_value ++ after_raw p r)) (sym before) ∙ value_whole) in
       let after = after_none (p.trailing_lines ++ r)
-      (subst (λ z. SpaceAfter z p.space_after) same placed.space_after) rest in
+      (subst (λ z. SpaceAfter (backslash_of o) z p.space_after) same placed.space_after) rest in
       let all : p ≡ tried_line source p.trailing_lines =
       ap (λ z. made z p.separator p.space_before p.raw_value p.space_after p.trailing_lines) key_read.key_is
       ∙ ap (λ z. made tried_key z p.space_before p.raw_value p.space_after p.trailing_lines)

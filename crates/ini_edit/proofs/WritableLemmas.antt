@@ -9,7 +9,7 @@ use Rattle.ini_text.specs.Grammar.CharacterKinds.{is_quote_mark, BeginsWithNo}
 use Rattle.ini_text.specs.Grammar.WhiteSpace.{trimmed}
 use Rattle.ini_text.specs.Inside.PlainTests.{begins, escapes_nothing}
 use Rattle.ini_text.specs.Options.Backslashes.{is_special}
-use Rattle.ini_text.specs.Options.ReadOptions.{backslash_of, without_escapes}
+use Rattle.ini_text.specs.Options.ReadOptions.{backslash_of, with_raw_backslashes, without_escapes}
 use Rattle.ini_text.specs.declared.option.ParseOption.{ParseOption}
 use Rattle.ini_text.specs.declared.write.policy.EscapePolicy.{EscapePolicy}
 use Rattle.ini_text.specs.declared.write.policy.EscapePolicy.TheVariants.{Nothing, Basics, BasicsUnicode}
@@ -71,10 +71,6 @@ raw_decides o policy value =
     (Decides-and _ _ (bytes_decides (trimmed value) value)
     (Decides-and _ _ (no_mark_decides o.enabled_quote value)
     (Decides-and _ _ (itself _) (closed_decides (ending o value)))))))
-
--- no escapes, and no backslash that takes anything
-abbrev with_raw_backslashes : ParseOption
-with_raw_backslashes = record without_escapes { enabled_raw_backslash = true }
 
 -- a folder of Windows
 folder : IsRawValue without_escapes Nothing (codes "C:\\new")

@@ -34,7 +34,7 @@ pub(crate) fn next_end(end: TextEnd, c: char, read: ParseOption) -> TextEnd
     match end {
         TextEnd::Escape => TextEnd::Inside,
         TextEnd::Inside | TextEnd::Line => {
-            if c == '\\' && read.has_special_backslash() {
+            if read.begins_escape(c) {
                 TextEnd::Escape
             } else if c == '\n' {
                 TextEnd::Line

@@ -6,11 +6,14 @@ ghost use Rattle.ini_text.specs.declared.error.Error.TheVariants.{Memory};
 ghost use Rattle.ini_text.specs.Grammar.CharacterKinds.{space};
 ghost use Rattle.ini_text.specs.Inside.PlainTests.{begins};
 ghost use Rattle.ini_edit.specs.Inside.KeyEdges.{IsKeyStart, IsSkipped, IsWhiteEnd, PutsKey};
-ghost use Rattle.ini_edit.specs.Renamed.{HasEdges, IsPlainBareKey};
+ghost use Rattle.ini_edit.specs.Renamed.{HasEdges, IsPlainBareKey, is_key_white};
 
 use crate::append::push_text;
 use crate::escape::push_escaped;
-use ini_text::{Error, EscapePolicy, ParseOption, front_before, is_plain_pair, split_first};
+use ini_text::{
+    Error, EscapePolicy, LoneLine, ParseOption, front_before, is_line_end, is_plain_pair,
+    split_first,
+};
 use std::alloc::Global;
 
 /// The white space around a key in its source.
@@ -18,7 +21,8 @@ use std::alloc::Global;
 pub(crate) struct KeyEdges<'a> {
     /// What stands before the key; nothing where keys keep their leading white space, which is their own.
     pub indent: &'a str,
-    /// What stands after the key.
+    /// What stands after the key; where keys end with their line, no line end: a backslash takes that into
+    /// the key.
     pub pad: &'a str,
 }
 
@@ -29,7 +33,7 @@ pub(crate) fn key_edges<'a>(source: &'a str, read: ParseOption) -> KeyEdges<'a>
     let start = key_start(source, read);
     KeyEdges {
         indent: front_before(source, start),
-        pad: white_end(start),
+        pad: white_end(start, read.line_without_separator),
     }
 }
 
@@ -58,19 +62,29 @@ fn skip_white(text: &str) -> &str
     rest
 }
 
-// The white space with which a text ends.
-fn white_end(text: &str) -> &str
-    ensures { IsWhiteEnd (chars text.now) (chars result.now) }
+// The white space with which a text ends, after a key.
+fn white_end(text: &str, line: LoneLine) -> &str
+    ensures { IsWhiteEnd line (chars text.now) (chars result.now) }
 {
     let mut white = text;
     let mut rest = text;
     'characters: while let Some((c, after)) = split_first(rest) {
-        if !c.is_whitespace() {
+        if !is_key_white(c, line) {
             white = after;
         }
         rest = after;
     }
     white
+}
+
+// Whether a character is white space that may stand after a key.
+fn is_key_white(c: char, line: LoneLine) -> bool
+    ensures { result ≡ is_key_white line c }
+{
+    match line {
+        LoneLine::RunsOn => c.is_whitespace(),
+        LoneLine::Refused => c.is_whitespace() && !is_line_end(c),
+    }
 }
 
 /// Whether a key can be written in any pair's place so that it is read back: it is plain, and no space

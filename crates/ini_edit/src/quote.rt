@@ -46,7 +46,7 @@ fn ends_at_quote_mark(text: &str, mark: char, read: ParseOption) -> bool
         if c == mark && !is_taken {
             return split_first(after).is_none();
         }
-        is_taken = c == '\\' && read.has_special_backslash() && !is_taken;
+        is_taken = read.begins_escape(c) && !is_taken;
         rest = after;
     }
     false

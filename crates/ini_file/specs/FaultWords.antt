@@ -2,7 +2,8 @@
 use Rattle.std.specs.Prelude.{ℕ, List, codes}
 use Rattle.ini_text.specs.declared.error.ParseKind.{ParseKind}
 use Rattle.ini_text.specs.declared.error.ParseKind.TheVariants.{BrokenEscape, CrAlone, EndOfText, HeaderEnd}
-use Rattle.ini_text.specs.declared.error.ParseKind.TheVariants.{InlineComment, MissingKey, UnknownCharacter}
+use Rattle.ini_text.specs.declared.error.ParseKind.TheVariants.{InlineComment, MissingKey, NoSeparator}
+use Rattle.ini_text.specs.declared.error.ParseKind.TheVariants.{UnknownCharacter}
 
 abbrev pub fault_words : ParseKind → List ℕ
 fault_words EndOfText = codes "the text ends within this"
@@ -12,3 +13,4 @@ fault_words InlineComment = codes "a comment begins only in the first column of 
 fault_words MissingKey = codes "no key stands before this"
 fault_words CrAlone = codes "among the lines of a value a CR has no LF after it"
 fault_words HeaderEnd = codes "the line of a section's name doesn't end in ]"
+fault_words NoSeparator = codes "this key has no = or : after it in its line"

@@ -16,7 +16,7 @@ kind_of name =
     || bytes_eq name (codes "--multiline") || bytes_eq name (codes "--indent")
     || bytes_eq name (codes "--brackets") || bytes_eq name (codes "--raw-backslash")
     || bytes_eq name (codes "--crlf") then Some Reading
-    else if bytes_eq name (codes "--policy") then Some ReadingText
+    else if bytes_eq name (codes "--policy") || bytes_eq name (codes "--lone-lines") then Some ReadingText
     else if bytes_eq name (codes "--existing") || bytes_eq name (codes "--all")
     || bytes_eq name (codes "--last") || bytes_eq name (codes "--origin")
     || bytes_eq name (codes "--null") || bytes_eq name (codes "--dry-run")

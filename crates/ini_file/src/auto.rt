@@ -15,6 +15,7 @@ use crate::run::{Outcome, status, tell};
 use crate::shown::Shown;
 use ini::ParseOption;
 use ini_dialect::{Dialect, Guess, NamedDialect, dialects, guesses};
+use ini_text::LoneLine;
 use std::io::Write;
 
 /// The dialect in place of `auto`: that of the first file. A note tells which it is where its text decides.
@@ -112,6 +113,10 @@ fn read_alike(one: ParseOption, other: ParseOption) -> bool {
             == other.enabled_preserve_key_leading_whitespace
         && one.enabled_brackets_in_section_names == other.enabled_brackets_in_section_names
         && one.enabled_raw_backslash == other.enabled_raw_backslash
+        && matches!(
+            (one.line_without_separator, other.line_without_separator),
+            (LoneLine::RunsOn, LoneLine::RunsOn) | (LoneLine::Refused, LoneLine::Refused)
+        )
 }
 
 // Tells of a file why its dialect isn't known, and answers the status.

@@ -6,14 +6,14 @@ use crate::looks::look_of;
 use crate::shown::{Shown, shown_line};
 use crate::unclosed::{Unclosed, find_unclosed};
 use ini::{ParseError, ParseKind, ParseOption, Parser};
-use ini_text::text_bytes;
+use ini_text::{is_blank, text_bytes};
 use std::alloc::Global;
 use std::io::Write;
 
 /// Prints where reading a text stops, and why; the line, and below it a caret. The place is that of the last
 /// character that was looked at. Where the text ends within quotes, brackets, a key or an escape, it is that
-/// of what has no end, and the text's end is reported after it. A line without characters isn't shown. A
-/// fault of the writer, or of memory, is dropped.
+/// of what has no end, and the text's end is reported after it; where a line ends with its key, that of the
+/// key. A line without characters isn't shown. A fault of the writer, or of memory, is dropped.
 ///
 /// No contract says what is printed; `tests/words.sh` tests it.
 pub fn show_fault<W: Write>(
@@ -28,19 +28,21 @@ pub fn show_fault<W: Write>(
         Ok((_, text)) => text,
         Err(_) => "",
     };
-    let is_end = matches!(&fault.kind, ParseKind::EndOfText);
-    let (line, column, words) = if is_end {
-        let Unclosed { place, words } = find_unclosed(stopped_at(alloc, text, read), read);
-        let (line, column) = position(text, place);
-        (line, column, words)
-    } else {
-        let (line, column) = before(text, fault);
-        (line, column, fault_words(fault.kind))
+    let ((line, column), words) = match fault.kind {
+        ParseKind::EndOfText => {
+            let Unclosed { place, words } = find_unclosed(stopped_at(alloc, text, read), read);
+            (position(text, place), words)
+        }
+        ParseKind::NoSeparator => {
+            let key = stopped_at(alloc, text, read).trim_start_matches(|c: char| is_blank(c));
+            (position(text, key), fault_words(fault.kind))
+        }
+        kind => (before(text, fault), fault_words(kind)),
     };
     let file = Shown(file);
     let _ = writeln!(err, "{file}:{line}:{column}: {words}");
     show(alloc, text, line, column, err);
-    if is_end {
+    if matches!(&fault.kind, ParseKind::EndOfText) {
         let _ = writeln!(err, "note: the text ends at {}:{}", fault.line, fault.col);
     }
 }

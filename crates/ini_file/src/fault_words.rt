@@ -16,5 +16,6 @@ pub fn fault_words(kind: ParseKind) -> &'static str
         ParseKind::MissingKey => "no key stands before this",
         ParseKind::CrAlone => "among the lines of a value a CR has no LF after it",
         ParseKind::HeaderEnd => "the line of a section's name doesn't end in ]",
+        ParseKind::NoSeparator => "this key has no = or : after it in its line",
     }
 }

@@ -26,8 +26,8 @@ pub struct Front<'a> {
 
 impl<'a> Front<'a> {
     /// What the words have at their front: `--like` and a dialect, or nothing; options of reading and writing
-    /// in any order, each as often as one likes, of which the last `--policy` holds; then a command. `None`
-    /// where that is missing, or the name of a dialect or a policy is, or is none's. Takes no memory.
+    /// in any order, as `Options::of_words` has them; then a command. `None` where that is missing, or the name
+    /// after `--like` or an option is, or is unknown. Takes no memory.
     pub fn of_words(words: &'a [String]) -> Option<Front<'a>>
         ensures { option_map front_of result ≡ fronted (map string_bytes words.now) }
     {

@@ -86,8 +86,9 @@ Options, of reading and of writing:
                  (what the name tells, else the text) crate (where none is named)
                  git systemd desktop python php mysql samba windows kde supervisor
                  fail2ban aws editorconfig npm qt hg pulseaudio odbc freetds sssd
-                 openssl uwsgi xrdp openttd; the other options count on top of it,
-                 and INI_LIKE names one too
+                 openssl uwsgi xrdp openttd strict (crate, and a line without
+                 separator is refused); the other options count on top of it, and
+                 INI_LIKE names one too
   --noescape     a backslash begins no escape
   --noquote      quotes are characters like others
   --multiline    a value goes on over indented lines
@@ -95,6 +96,9 @@ Options, of reading and of writing:
   --brackets     brackets may stand in names of sections
   --raw-backslash
                  with --noescape a backslash is a character like any other
+  --lone-lines NAME
+                 a line in which no separator follows the key is refused, or runs-on
+                 (where none is named): the key goes on over the lines below
   --crlf         written lines end with CR LF
   --policy NAME  which characters are written as escapes
   --encoding NAME

@@ -184,6 +184,13 @@ fn answer_to<W: Write>(
     answer(alloc, question, document, option, &mut Watched::new(writer))
 }
 
+// The usage line.
+fn usage() -> &'static str
+    ensures { result.now ≡ usage_line }
+{
+    USAGE
+}
+
 /// Prints how a run over a file ended, where there is something to say: the usage; or the program's name, the
 /// file, if there is one, and the refusal. Control characters of the file's name are printed as escapes. A
 /// fault of the writer is dropped.
@@ -194,7 +201,7 @@ pub fn tell<W: Write>(file: &str, outcome: &Outcome, err: &mut W)
     match outcome {
         Outcome::Done(_) | Outcome::NotFound => {}
         Outcome::Usage => {
-            let _ = write_raw(USAGE, &mut Watched::new(err));
+            let _ = write_raw(usage(), &mut Watched::new(err));
         }
         Outcome::Coding(refusal) => {
             let file = Shown(file);

@@ -48,7 +48,7 @@ pub fn kind_of(name: &str) -> Option<Kind>
         | "--brackets"
         | "--raw-backslash"
         | "--crlf" => { Some(Kind::Reading) }
-        "--policy" => Some(Kind::ReadingText),
+        "--policy" | "--lone-lines" => Some(Kind::ReadingText),
         "--existing"
         | "--all"
         | "--last"

@@ -46,7 +46,7 @@ fn after_key(pair: &str, read: ParseOption) -> Option<&str> {
     for (at, c) in pair.char_indices() {
         if is_taken {
             is_taken = false;
-        } else if c == '\\' && read.has_special_backslash() {
+        } else if read.begins_escape(c) {
             is_taken = true;
         } else if c == '=' || c == ':' {
             return pair.get(at.saturating_add(1)..);

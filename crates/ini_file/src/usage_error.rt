@@ -14,7 +14,7 @@ use crate::spacing::{small_number, sorting_of};
 use crate::spelling::kind_of;
 use ini_check::TRAPS;
 use ini_dialect::{Dialect, Encoding, dialects};
-use ini_words::policy_named;
+use ini_words::{lone_line_named, policy_named};
 use std::alloc::AllocError;
 use std::io::{self, Write};
 
@@ -29,24 +29,12 @@ pub enum UsageError<'a> {
     TakesNoText(&'a str),
     /// No dialect has this name.
     Dialect(&'a str),
-    /// No encoding has this name.
-    Encoding(&'a str),
-    /// No policy has this name.
-    Policy(&'a str),
-    /// This is no number of seconds.
-    Seconds(&'a str),
-    /// This is no number of spaces or lines.
-    Number(&'a str),
+    /// A text that the option before it doesn't take; and what that takes, in words.
+    Text(&'a str, &'static str),
     /// The command writes no form of this name.
     Format(Shape, &'a str),
     /// A form for programs with another one.
     OneForm,
-    /// No kind of values has this name.
-    ValueKind(&'a str),
-    /// This is no word on colours.
-    Color(&'a str),
-    /// This names nothing that is sorted.
-    Sorting(&'a str),
     /// No trap and no level has this name.
     Trap(&'a str),
     /// No command is there.
@@ -102,7 +90,7 @@ pub fn usage_error_of<'a>(sorted: &Sorted<'a>) -> Option<UsageError<'a>> {
     };
     dialect_error(sorted.like)
         .or(encoding_error(sorted.encoding))
-        .or(policy_error(sorted.options.as_slice()))
+        .or(option_error(sorted.options.as_slice()))
         .or(choice_error(shape, sorted.choices.as_slice()))
         .or(output_error(shape, sorted.choices.as_slice(), arguments))
         .or(argument_error(shape, arguments, sorted.section))
@@ -120,18 +108,25 @@ fn dialect_error(like: Option<&str>) -> Option<UsageError<'_>> {
 fn encoding_error(encoding: Option<&str>) -> Option<UsageError<'_>> {
     match Encoding::of_name(encoding?) {
         Some(_) => None,
-        None => Some(UsageError::Encoding(encoding?)),
+        None => Some(UsageError::Text(encoding?, NO_ENCODING)),
     }
 }
 
-// The name that is no policy's.
-fn policy_error<'a>(options: &[&'a str]) -> Option<UsageError<'a>> {
-    let mut is_name = false;
+// The name that the option before it doesn't take.
+fn option_error<'a>(options: &[&'a str]) -> Option<UsageError<'a>> {
+    let mut before = "";
     for word in options {
-        if is_name && policy_named(word).is_none() {
-            return Some(UsageError::Policy(*word));
-        }
-        is_name = !is_name && *word == "--policy";
+        let name = *word;
+        before = match before {
+            "--policy" if policy_named(name).is_none() => {
+                return Some(UsageError::Text(name, NO_POLICY));
+            }
+            "--lone-lines" if lone_line_named(name).is_none() => {
+                return Some(UsageError::Text(name, NO_LONE_LINE));
+            }
+            "--policy" | "--lone-lines" => "",
+            _ => name,
+        };
     }
     None
 }
@@ -207,14 +202,14 @@ fn output_error<'a>(
 // What is wrong with the text of a choice.
 fn text_error<'a>(shape: Shape, choice: &str, text: &'a str) -> Option<UsageError<'a>> {
     match choice {
-        "--color" if Color::of_name(text).is_none() => Some(UsageError::Color(text)),
-        "--wait" if !is_short_number(text) => Some(UsageError::Seconds(text)),
+        "--color" if Color::of_name(text).is_none() => Some(UsageError::Text(text, NO_COLOR)),
+        "--wait" if !is_short_number(text) => Some(UsageError::Text(text, NO_SECONDS)),
         "--indent-pairs" | "--blank-lines" if small_number(text).is_none() => {
-            Some(UsageError::Number(text))
+            Some(UsageError::Text(text, NO_NUMBER))
         }
-        "--type" if ValueKind::of_name(text).is_none() => Some(UsageError::ValueKind(text)),
+        "--type" if ValueKind::of_name(text).is_none() => Some(UsageError::Text(text, NO_TYPE)),
         "--format" if !shape.writes(text) => Some(UsageError::Format(shape, text)),
-        "--sort" if sorting_of(text).is_none() => Some(UsageError::Sorting(text)),
+        "--sort" if sorting_of(text).is_none() => Some(UsageError::Text(text, NO_SORTING)),
         "--allow" | "--deny" if !names_traps(text) => Some(UsageError::Trap(text)),
         _ => None,
     }
@@ -286,13 +281,7 @@ fn print_error<W: Write>(error: UsageError<'_>, err: &mut W) -> io::Result<()> {
         UsageError::NeedsText(name) => writeln!(err, "{name} takes {}", text_of(name)),
         UsageError::TakesNoText(name) => writeln!(err, "{name} takes no text"),
         UsageError::Dialect(name) => print_dialect(name, err),
-        UsageError::Encoding(name) => print_unknown(name, NO_ENCODING, err),
-        UsageError::Policy(name) => print_unknown(name, NO_POLICY, err),
-        UsageError::Seconds(text) => print_unknown(text, NO_SECONDS, err),
-        UsageError::Number(text) => print_unknown(text, "is no number of one or two digits", err),
-        UsageError::Sorting(name) => print_unknown(name, NO_SORTING, err),
-        UsageError::ValueKind(name) => print_unknown(name, NO_TYPE, err),
-        UsageError::Color(word) => print_unknown(word, NO_COLOR, err),
+        UsageError::Text(text, words) => print_unknown(text, words, err),
         UsageError::Trap(name) => print_trap(name, err),
         UsageError::NoCommand => writeln!(err, "a command is missing: one of {COMMANDS}"),
         UsageError::Command(word) => print_command(word, err),
@@ -391,7 +380,7 @@ fn print_choices<W: Write>(shape: Shape, err: &mut W) -> io::Result<()> {
     writeln!(err)
 }
 
-// Prints the text of an option, and that it is none, and which are.
+// Prints the text of an option, that it doesn't take it, and what it takes.
 fn print_unknown<W: Write>(text: &str, words: &str, err: &mut W) -> io::Result<()> {
     let text = Shown(text);
     writeln!(err, "{text} {words}")
@@ -468,7 +457,11 @@ const NO_POLICY: &str =
     "is no policy; --policy takes one of Nothing Basics BasicsUnicode BasicsUnicodeExtended Reserved \
     ReservedUnicode ReservedUnicodeExtended Everything";
 
+const NO_LONE_LINE: &str = "is no word on lone lines; --lone-lines takes refused or runs-on";
+
 const NO_SECONDS: &str = "is no number of seconds; --wait takes one, as 10";
+
+const NO_NUMBER: &str = "is no number of one or two digits";
 
 const NO_SORTING: &str = "is nothing to sort; --sort takes keys, sections or both";
 

@@ -1,10 +1,10 @@
 //! Each request for memory of loading refused in turn, of a text and of a reader's bytes.
-use crate::devices::{SlowReader, is_quiet};
+use crate::devices::{SlowReader, StepReader, is_quiet};
 use crate::reading::{CONTINUED, CONTINUED_SHOWN};
 use crate::scarce::{CALLS, Famine};
 use crate::show::{expect_shown, multiline};
-use ini::{Error, Ini, ParseOption, Watched};
-use ini_text::Parser;
+use ini::{Error, Ini, ParseKind, ParseOption, Watched};
+use ini_text::{LoneLine, Parser};
 use std::process::Abort;
 
 /// A text with each production of the grammar in it, where every option is on.
@@ -16,7 +16,7 @@ pub(crate) const EACH: &'static str =
 pub(crate) const EACH_SHOWN: &'static str =
     "general: <x|0> [a]]: <  key|q rest\nmore\n\nw> <kA|v> []: <\tz|1> [b]: ";
 
-/// Every option.
+/// Every option that is on or off. Keys run on.
 pub(crate) fn all_on() -> ParseOption {
     ParseOption {
         enabled_quote: true,
@@ -25,6 +25,15 @@ pub(crate) fn all_on() -> ParseOption {
         enabled_preserve_key_leading_whitespace: true,
         enabled_brackets_in_section_names: true,
         enabled_raw_backslash: true,
+        line_without_separator: LoneLine::RunsOn,
+    }
+}
+
+/// The same, and a line without separator is refused.
+pub(crate) fn lines_refused() -> ParseOption {
+    ParseOption {
+        line_without_separator: LoneLine::Refused,
+        ..all_on()
     }
 }
 
@@ -70,6 +79,19 @@ fn each_request_of_loading_raw_backslashes_is_refused(rt: HostRuntime) {
         "loading raw backslashes",
         &document,
         "general: <p|C:\\ x\\> <k\\|v> ",
+    );
+}
+
+#[test]
+fn each_request_of_loading_keys_of_one_line_is_refused(rt: HostRuntime) {
+    let text = "  a long key that keeps its blanks = 1\n[a]\nk\\x0041\\\n that goes on=v\n\n\n";
+    let (document, refused) = loaded_at_last(&rt, text, lines_refused());
+    assert!(rt; refused > 0);
+    expect_shown(
+        &rt,
+        "loading keys of one line",
+        &document,
+        "general: <  a long key that keeps its blanks|1> [a]: <kA that goes on|v> ",
     );
 }
 
@@ -148,15 +170,23 @@ fn each_request_of_reading_is_refused(rt: HostRuntime) {
 /// A text that is refused after a pair.
 pub(crate) const REFUSED: &'static str = "key=value\n=v";
 
+/// A text, how it is loaded, and line and column at which it is refused.
+type Refused = (&'static str, ParseOption, (usize, usize));
+
 // Loads the refused text with so much memory. Whether the place of its fault is reported; else memory was
 // refused.
-fn is_reported(rt: &(impl Abort + AllocGlobal), famine: &mut Famine, steps: usize) -> bool {
+fn is_reported(
+    rt: &(impl Abort + AllocGlobal),
+    famine: &mut Famine,
+    steps: usize,
+    (text, read, place): Refused,
+) -> bool {
     let rest = famine.leave(rt, steps);
-    let answer = Ini::load_from_str(rt.alloc(), REFUSED);
+    let answer = Ini::load_from_str_opt(rt.alloc(), text, read);
     drop(rest);
     match answer {
         Err(Error::Parse(fault)) => {
-            assert!(rt; (fault.line, fault.col) == (2, 2));
+            assert!(rt; (fault.line, fault.col) == place);
             true
         }
         Err(Error::Memory(_)) => false,
@@ -164,16 +194,52 @@ fn is_reported(rt: &(impl Abort + AllocGlobal), famine: &mut Famine, steps: usiz
     }
 }
 
-#[test]
-fn a_refused_text_is_reported_where_memory_is_enough(rt: HostRuntime) {
-    let mut famine = Famine::new(&rt);
+// How often memory was refused before the fault was reported.
+fn reported_at_last(rt: &(impl Abort + AllocGlobal), refused: Refused) -> usize {
+    let mut famine = Famine::new(rt);
     for steps in 0..CALLS {
-        if is_reported(&rt, &mut famine, steps) {
-            assert!(rt; steps > 0);
-            return;
+        if is_reported(rt, &mut famine, steps, refused) {
+            return steps;
         }
     }
     panic!(rt; "never reported")
+}
+
+#[test]
+fn a_refused_text_is_reported_where_memory_is_enough(rt: HostRuntime) {
+    let no_key = (REFUSED, ParseOption::default(), (2, 2));
+    assert!(rt; reported_at_last(&rt, no_key) > 0);
+    let no_separator = (
+        "key=value\nk\\x0041\\\n that goes on\n",
+        lines_refused(),
+        (4, 1),
+    );
+    assert!(rt; reported_at_last(&rt, no_separator) > 0);
+}
+
+/// Texts that are refused since a key ends with its line, and where.
+const LONE_LINES: [(&'static str, ParseKind, (usize, usize)); 5] = [
+    ("k=v\nabc\nj=w", ParseKind::NoSeparator, (3, 1)),
+    ("\u{e9}\u{1f431}\r\nk=v", ParseKind::NoSeparator, (1, 4)),
+    ("[a]\n\ta\\\nb\rk=v", ParseKind::NoSeparator, (3, 3)),
+    ("[a]\n\n  abc", ParseKind::EndOfText, (3, 6)),
+    ("k=v\n\n=w\nabc\n", ParseKind::MissingKey, (3, 2)),
+];
+
+#[test]
+fn a_line_is_refused_however_many_bytes_a_call_gives(rt: HostRuntime) {
+    for (text, kind, place) in LONE_LINES {
+        for step in 1..text.len().saturating_add(1) {
+            let mut device = StepReader::new(text.as_bytes(), step);
+            let mut reader = Watched::new(&mut device);
+            match Ini::read_watched(rt.alloc(), &mut reader, lines_refused(), true) {
+                Err(Error::Parse(fault)) => {
+                    assert!(rt; fault.kind == kind && (fault.line, fault.col) == place);
+                }
+                _ => panic!(rt; "another answer"),
+            }
+        }
+    }
 }
 
 // Whether the next item is refused when out of memory.

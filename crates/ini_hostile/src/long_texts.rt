@@ -1,7 +1,7 @@
 //! Texts longer than two reads: what is read of them from a device, beside what loading the same text gives
 //! or what follows from how the text was made.
 use crate::devices::{READ_FAULTS, StepReader};
-use crate::loading::all_on;
+use crate::loading::{all_on, lines_refused};
 use crate::show::{multiline, shown};
 use ini::{Error, Ini, ParseKind, ParseOption, Watched};
 use std::alloc::Global;
@@ -91,7 +91,12 @@ fn sections(rt: &(impl Abort + AllocGlobal)) -> String {
 #[test]
 fn sections_are_read_as_they_are_loaded(rt: HostRuntime) {
     let text = sections(&rt);
-    for opt in [ParseOption::default(), multiline(), all_on()] {
+    for opt in [
+        ParseOption::default(),
+        multiline(),
+        all_on(),
+        lines_refused(),
+    ] {
         let want = loaded_shown(&rt, &text, opt);
         expect_read(&rt, "sections", (&text, opt, false), &want);
     }
@@ -222,18 +227,17 @@ fn is_refused(answer: &Result<Ini, Error>, (line, col, kind): Place) -> bool {
 }
 
 /// Asks that the text is refused at the place, loaded and read.
-fn expect_refusal(rt: &(impl Abort + AllocGlobal), of: &str, text: &str, place: Place) {
+fn expect_refusal(
+    rt: &(impl Abort + AllocGlobal),
+    of: &str,
+    (text, opt): (&str, ParseOption),
+    place: Place,
+) {
     expect(rt, of, text.len() > 2 * PIECE);
-    let loaded = Ini::load_from_str(rt.alloc(), text);
+    let loaded = Ini::load_from_str_opt(rt.alloc(), text, opt);
     expect(rt, of, is_refused(&loaded, place));
     for step in STEPS {
-        let answer = read(
-            rt.alloc(),
-            text.as_bytes(),
-            step,
-            ParseOption::default(),
-            false,
-        );
+        let answer = read(rt.alloc(), text.as_bytes(), step, opt, false);
         expect(rt, (of, step), is_refused(&answer, place));
     }
 }
@@ -250,16 +254,17 @@ const PAIRS: [(&'static str, usize); 2] = [("key=value\n", 1), ("key=\"a\nb\"\r\
 
 #[test]
 fn a_refusal_after_two_reads_is_reported_at_its_place(rt: HostRuntime) {
+    let opt = ParseOption::default();
     let following = repeated(&rt, "key=value\n", 7_000);
     for (pair, lines) in PAIRS {
         let front = repeated(&rt, pair, 15_000);
         let line = lines.saturating_mul(15_000).saturating_add(1);
         for (refused, col, kind) in REFUSED {
             let text = joined(&rt, &front, refused, &following);
-            expect_refusal(&rt, refused, &text, (line, col, kind));
+            expect_refusal(&rt, refused, (&text, opt), (line, col, kind));
         }
         let text = joined(&rt, &front, "key", "");
-        expect_refusal(&rt, "key", &text, (line, 4, ParseKind::EndOfText));
+        expect_refusal(&rt, "key", (&text, opt), (line, 4, ParseKind::EndOfText));
     }
 }
 
@@ -267,7 +272,33 @@ fn a_refusal_after_two_reads_is_reported_at_its_place(rt: HostRuntime) {
 fn a_column_longer_than_two_reads_is_reported(rt: HostRuntime) {
     let name = repeated(&rt, "é", 75_000);
     let text = joined(&rt, "\n[", &name, "]=v\n");
-    expect_refusal(&rt, "name", &text, (2, 75_004, ParseKind::MissingKey));
+    let place = (2, 75_004, ParseKind::MissingKey);
+    expect_refusal(&rt, "name", (&text, ParseOption::default()), place);
+}
+
+#[test]
+fn a_line_without_separator_is_reported_across_the_end_of_a_read(rt: HostRuntime) {
+    let following = repeated(&rt, "key=value\n", 7_000);
+    for less in 5..11usize {
+        let value = repeated(&rt, "v", PIECE.saturating_sub(less));
+        let front = joined(&rt, "k=", &value, "\nabc");
+        for (end, line, col) in [("\n", 3, 1), ("\r\n", 2, 5)] {
+            let text = joined(&rt, &front, end, &following);
+            let place = (line, col, ParseKind::NoSeparator);
+            expect_refusal(&rt, end, (&text, lines_refused()), place);
+        }
+    }
+}
+
+#[test]
+fn a_key_longer_than_two_reads_ends_with_its_line(rt: HostRuntime) {
+    let key = repeated(&rt, "é", 75_000);
+    let text = joined(&rt, "\n  ", &key, "\r\nk=v");
+    let place = (2, 75_004, ParseKind::NoSeparator);
+    expect_refusal(&rt, "line", (&text, lines_refused()), place);
+    let text = joined(&rt, "\n  ", &key, "");
+    let place = (2, 75_003, ParseKind::EndOfText);
+    expect_refusal(&rt, "text", (&text, lines_refused()), place);
 }
 
 /// How texts begin: some are refused there, one is never whole.

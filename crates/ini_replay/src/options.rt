@@ -1,6 +1,6 @@
 //! Options by the words of a question: `InvalidInput` where a word is none.
 use crate::hex::text_of_hex;
-use ini_text::{EscapePolicy, LineSeparator, ParseOption};
+use ini_text::{EscapePolicy, LineSeparator, LoneLine, ParseOption};
 use std::alloc::Global;
 use std::io::{self, ErrorKind};
 
@@ -17,15 +17,25 @@ fn flag(digit: u8) -> io::Result<bool> {
     }
 }
 
+// What becomes of a line without separator.
+fn lone_line(digit: u8) -> io::Result<LoneLine> {
+    match digit {
+        b'0' => Ok(LoneLine::RunsOn),
+        b'1' => Ok(LoneLine::Refused),
+        _ => Err(invalid()),
+    }
+}
+
 /// How a text is read, by five flags, each `0` or `1`: escapes, quotes, multiline values, kept indentation,
-/// brackets in names; a sixth, which may be left out, is that of raw backslashes.
+/// brackets in names. Two more may be left out: raw backslashes, and refused lines without separator.
 pub(crate) fn reading_of_flags(flags: &str) -> io::Result<ParseOption> {
     let [escape, quote, multiline, indent, brackets, rest @ ..] = flags.as_bytes() else {
         return Err(invalid());
     };
-    let raw = match rest {
-        [] => false,
-        [digit] => flag(*digit)?,
+    let (raw, lone) = match rest {
+        [] => (b'0', b'0'),
+        [raw] => (*raw, b'0'),
+        [raw, lone] => (*raw, *lone),
         _ => return Err(invalid()),
     };
     Ok(ParseOption {
@@ -34,7 +44,8 @@ pub(crate) fn reading_of_flags(flags: &str) -> io::Result<ParseOption> {
         enabled_indented_mutiline_value: flag(*multiline)?,
         enabled_preserve_key_leading_whitespace: flag(*indent)?,
         enabled_brackets_in_section_names: flag(*brackets)?,
-        enabled_raw_backslash: raw,
+        enabled_raw_backslash: flag(raw)?,
+        line_without_separator: lone_line(lone)?,
     })
 }
 

@@ -4,5 +4,6 @@ pub mod WorkedTexts
 pub mod WorkedRefusals
 pub mod WorkedBrackets
 pub mod WorkedBackslashes
+pub mod WorkedLoneLines
 pub mod EscapedSamples
 pub mod PlainSamples

@@ -24,6 +24,8 @@ pub enum ParseKind {
     CrAlone,
     /// With brackets in names, a header's line does not end in `]`.
     HeaderEnd,
+    /// Where lines without separator are refused, a line ends before one.
+    NoSeparator,
 }
 
 /// Where and why reading a text stopped.

@@ -3,7 +3,7 @@
 ghost use Rattle.std.specs.Prelude.{◌≡◌, true, ◌+◌, ◌++◌, ◌-◌, ◌<◌, ◌≤◌, ℕ, Bool, length, map, take};
 ghost use Rattle.std.specs.List.{position_or_len};
 ghost use Rattle.std.specs.Simd.Lanes.{chunk, mask_l};
-ghost use Rattle.ini_text.specs.Inside.Lanes.{Tells, is_one_of};
+ghost use Rattle.ini_text.specs.Inside.Lanes.{Tells, is_one_of, is_one_of_five};
 ghost use Rattle.ini_text.specs.declared.lanes.TheConstants.{HALF, LANES};
 
 use std::simd::prelude::*;
@@ -119,6 +119,30 @@ impl Marks for Three {
         let second = lanes.simd_eq(u8x16::splat(self.1));
         let third = lanes.simd_eq(u8x16::splat(self.2));
         (first | second | third).to_bitmask()
+    }
+}
+
+/// Three bytes and two more.
+#[derive(Clone, Copy)]
+pub(crate) struct Five(pub(crate) Three, pub(crate) u8, pub(crate) u8);
+
+impl Marks for Five {
+    ghost is_marked = { λ five byte.
+        is_one_of_five five.0.0 five.0.1 five.0.2 five.1 five.2 byte };
+
+    #[inline(always)]
+    fn contains(&self, byte: u8) -> bool {
+        self.0.contains(byte) || byte == self.1 || byte == self.2
+    }
+
+    #[inline(always)]
+    fn find(&self, lanes: u8x16) -> u64 {
+        let first = lanes.simd_eq(u8x16::splat(self.0.0));
+        let second = lanes.simd_eq(u8x16::splat(self.0.1));
+        let third = lanes.simd_eq(u8x16::splat(self.0.2));
+        let fourth = lanes.simd_eq(u8x16::splat(self.1));
+        let fifth = lanes.simd_eq(u8x16::splat(self.2));
+        (first | second | third | fourth | fifth).to_bitmask()
     }
 }
 

@@ -22,7 +22,7 @@ pub use device::Watched;
 pub use error::{Error, ParseError, ParseKind};
 pub use item::{BorrowedItem, Item};
 pub use lines::whole_lines;
-pub use option::ParseOption;
+pub use option::{LoneLine, ParseOption};
 pub use parser::Parser;
 pub use parser::placed::{Content, PairPlaces, PlacedElement, PlacedPair};
 pub use plain::{is_plain_name, is_plain_pair, is_plain_separator, is_plain_value};

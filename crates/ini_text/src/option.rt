@@ -1,7 +1,16 @@
 //! The options by which a text is read. This file knows no grammar.
 ghost use Rattle.std.specs.Prelude.{◌≡◌};
-ghost use Rattle.ini_text.specs.Options.Backslashes.{is_special};
+ghost use Rattle.ini_text.specs.Options.Backslashes.{begins_escape, is_special};
 ghost use Rattle.ini_text.specs.Options.ReadOptions.{backslash_of, default_parse_option};
+
+/// What becomes of a line in which no separator follows the key.
+#[derive(Clone, Copy, Debug)]
+pub enum LoneLine {
+    /// The key runs on over the lines below, up to a separator.
+    RunsOn,
+    /// The text is refused at the line's end.
+    Refused,
+}
 
 /// What the reader of a text allows.
 #[derive(Clone, Copy)]
@@ -20,11 +29,20 @@ pub struct ParseOption {
     pub enabled_brackets_in_section_names: bool,
     /// Where escapes are off, a backslash is a character like any other, before LF too.
     pub enabled_raw_backslash: bool,
+    /// What becomes of a line in which no separator follows the key.
+    pub line_without_separator: LoneLine,
 }
 
 impl ParseOption {
+    /// Whether the character is a backslash that takes the one after it along.
+    pub fn begins_escape(self, c: char) -> bool
+        ensures { result ≡ begins_escape (backslash_of self) c }
+    {
+        c == '\\' && self.has_special_backslash()
+    }
+
     /// Whether a backslash takes the character after it along.
-    pub fn has_special_backslash(self) -> bool
+    pub(crate) fn has_special_backslash(self) -> bool
         ensures { result ≡ is_special (backslash_of self) }
     {
         self.enabled_escape || !self.enabled_raw_backslash
@@ -32,7 +50,7 @@ impl ParseOption {
 }
 
 /// Quotes and escapes are read; multiline values, kept indentation, brackets in names and
-/// raw backslashes are off.
+/// raw backslashes are off; a key without separator runs on.
 impl Default for ParseOption {
     ghost is_default = { λ o. o ≡ default_parse_option };
 
@@ -44,6 +62,7 @@ impl Default for ParseOption {
             enabled_preserve_key_leading_whitespace: false,
             enabled_brackets_in_section_names: false,
             enabled_raw_backslash: false,
+            line_without_separator: LoneLine::RunsOn,
         }
     }
 }

@@ -138,7 +138,7 @@ fn has_no_escapes(text: &str, policy: EscapePolicy, read: ParseOption) -> bool
 fn is_read_raw(c: char, policy: EscapePolicy, read: ParseOption) -> bool
     ensures { result ≡ is_read_raw read policy c }
 {
-    !policy.should_escape(c) && !(c == '\\' && read.has_special_backslash()) && !is_line_end(c)
+    !policy.should_escape(c) && !read.begins_escape(c) && !is_line_end(c)
 }
 
 fn has_no_close_bracket(name: &str) -> bool

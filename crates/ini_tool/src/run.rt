@@ -136,6 +136,13 @@ fn outcome_of(answered: Result<bool, Error>) -> Outcome
     }
 }
 
+// The usage line.
+fn usage() -> &'static str
+    ensures { result.now ≡ usage_line }
+{
+    USAGE
+}
+
 /// Prints how a run ended, where there is something to say: the usage, or the program's name and the
 /// refusal. A fault of the writer is dropped.
 pub fn tell<W: Write>(outcome: &Outcome, err: &mut W)
@@ -145,7 +152,7 @@ pub fn tell<W: Write>(outcome: &Outcome, err: &mut W)
     match outcome {
         Outcome::Done | Outcome::NotFound => {}
         Outcome::Usage => {
-            let _ = write_raw(USAGE, &mut Watched::new(err));
+            let _ = write_raw(usage(), &mut Watched::new(err));
         }
         Outcome::Refused(refusal) => {
             let _ = writeln!(err, "ini_tool: {refusal}");

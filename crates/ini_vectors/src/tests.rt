@@ -8,6 +8,7 @@ mod files;
 mod large;
 mod layers;
 mod layouts;
+mod lone_lines;
 mod refusals;
 mod saving;
 mod text_edits;

@@ -6,6 +6,8 @@ use Rattle.std.specs.Option.{option_map, option_map_or}
 use Rattle.std.specs.Str.{bytes_eq}
 use Rattle.std.specs.declared.alloc.Global.{Global}
 use Rattle.ini_text.specs.Options.ReadOptions.{default_parse_option}
+use Rattle.ini_text.specs.declared.option.LoneLine.{LoneLine}
+use Rattle.ini_text.specs.declared.option.LoneLine.TheVariants.{RunsOn, Refused}
 use Rattle.ini_text.specs.declared.option.ParseOption.{ParseOption}
 use Rattle.ini_text.specs.declared.write.policy.EscapePolicy.{EscapePolicy}
 use Rattle.ini_text.specs.declared.write.policy.EscapePolicy.TheVariants.{Nothing, Basics, BasicsUnicode}
@@ -32,6 +34,10 @@ default_options = record {
 -- the options with another way of reading
 abbrev pub with_reading : Options → ParseOption → Options
 with_reading o reading = record o { reading = reading }
+
+-- the options, with what becomes of lines without separator
+abbrev pub with_lone_line : Options → LoneLine → Options
+with_lone_line o lone = with_reading o (record o.reading { line_without_separator = lone })
 
 -- what a word sets that is an option by itself
 abbrev pub with_switch : Word → Options → Option Options
@@ -65,14 +71,22 @@ policy_named name =
     else if bytes_eq name (codes "Everything") then Some Everything
     else None
 
+-- what becomes of lines without separator, by its name
+abbrev pub lone_line_named : Word → Option LoneLine
+lone_line_named name =
+    if bytes_eq name (codes "runs-on") then Some RunsOn
+    else if bytes_eq name (codes "refused") then Some Refused
+    else None
+
 -- the options of words where `o` holds before them, and the words after: each word that is an option
--- changes it, and those after begin at the first that is none. None where the name of a policy is missing,
--- or is no policy's
+-- changes it, and those after begin at the first that is none. None where a name that belongs to an option
+-- is missing, or unknown
 abbrev mutual
   pub given : Options → List Word → Option (Options × List Word)
   given o [] = Some (o, [])
   given o (word ∷ words) =
       if bytes_eq word (codes "--policy") then given_policy o words
+      else if bytes_eq word (codes "--lone-lines") then given_lone_line o words
       else option_map_or (λ p. given p words) (with_switch word o) (Some (o, word ∷ words))
 
   -- the same after the word `--policy`, which the name of a policy follows
@@ -80,6 +94,12 @@ abbrev mutual
   given_policy o [] = None
   given_policy o (name ∷ words) =
       option_and_then (λ policy. given (record o { escape_policy = policy }) words) (policy_named name)
+
+  -- and after the word `--lone-lines`
+  pub given_lone_line : Options → List Word → Option (Options × List Word)
+  given_lone_line o [] = None
+  given_lone_line o (name ∷ words) =
+      option_and_then (λ lone. given (with_lone_line o lone) words) (lone_line_named name)
 
 -- what a call answers: the options, and the words after them
 abbrev pub given_by : Option (Options × Bor (List (String Global))) → Option (Options × List Word)

@@ -11,6 +11,6 @@ mod usage;
 mod words;
 
 pub use fault::with_name;
-pub use options::{Options, policy_named};
+pub use options::{Options, lone_line_named, policy_named};
 pub use page::{Page, page_of};
 pub use words::words_of;

@@ -1,9 +1,9 @@
 //! The options that stand at the front of a program's words. This file knows no command and no device.
 ghost use Rattle.std.specs.Prelude.{◌≡◌, ◌≤◌, IfSome, length, map, string_bytes};
-ghost use Rattle.ini_words.specs.Words.{IsWriteOption, default_options, given, given_by, policy_named};
-ghost use Rattle.ini_words.specs.Words.{with_switch};
+ghost use Rattle.ini_words.specs.Words.{IsWriteOption, default_options, given, given_by, lone_line_named};
+ghost use Rattle.ini_words.specs.Words.{policy_named, with_switch};
 
-use ini_text::{EscapePolicy, LineSeparator, ParseOption, WriteOption};
+use ini_text::{EscapePolicy, LineSeparator, LoneLine, ParseOption, WriteOption};
 
 /// How a program reads and writes.
 #[derive(Clone, Copy)]
@@ -31,8 +31,8 @@ impl Default for Options {
 
 impl Options {
     /// The options that words have at their front, in any order and each as often as one likes, and the
-    /// words after them: those from the first one on that is no option. The last `--policy` holds. `None`
-    /// where the name of a policy is missing after that, or is no policy's. Takes no memory.
+    /// words after them: those from the first one on that is no option. The last `--policy` holds, and the
+    /// last `--lone-lines`. `None` where the name after one is missing, or unknown. Takes no memory.
     pub fn of_words(words: &[String]) -> Option<(Options, &[String])>
         ensures given { given_by result ≡ given default_options (map string_bytes words.now) }
         ensures no_more { IfSome result (λ p. length p.1.now ≤ length words.now) }
@@ -52,6 +52,10 @@ impl Options {
             if word == "--policy" {
                 let (name, after) = after.split_first()?;
                 options.escape_policy = policy_named(name.as_str())?;
+                rest = after;
+            } else if word == "--lone-lines" {
+                let (name, after) = after.split_first()?;
+                options.reading.line_without_separator = lone_line_named(name.as_str())?;
                 rest = after;
             } else if let Some(changed) = options.with_switch(word) {
                 options = changed;
@@ -107,6 +111,17 @@ pub fn policy_named(name: &str) -> Option<EscapePolicy>
         "ReservedUnicode" => Some(EscapePolicy::ReservedUnicode),
         "ReservedUnicodeExtended" => Some(EscapePolicy::ReservedUnicodeExtended),
         "Everything" => Some(EscapePolicy::Everything),
+        _ => None,
+    }
+}
+
+/// What becomes of lines without separator, by its name.
+pub fn lone_line_named(name: &str) -> Option<LoneLine>
+    ensures { result ≡ lone_line_named name.now }
+{
+    match name {
+        "runs-on" => Some(LoneLine::RunsOn),
+        "refused" => Some(LoneLine::Refused),
         _ => None,
     }
 }

@@ -8,8 +8,8 @@ macro_rules! usage_line {
         concat!(
             "usage: ",
             $program,
-            " [--noescape] [--noquote] [--multiline] [--indent] [--brackets] [--raw-backslash] [--crlf]",
-            " [--policy NAME] ",
+            " [--noescape] [--noquote] [--multiline] [--indent] [--brackets] [--raw-backslash]",
+            " [--lone-lines NAME] [--crlf] [--policy NAME] ",
             $following,
             "\n",
         )

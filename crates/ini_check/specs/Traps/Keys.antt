@@ -5,6 +5,7 @@ use Rattle.std.specs.Char.{is_whitespace, to_ascii_lowercase}
 use Rattle.std.specs.List.{list_any}
 use Rattle.ini_text.specs.Grammar.CharacterKinds.{backslash, close_bracket, colon, equals, is_blank}
 use Rattle.ini_text.specs.Grammar.CharacterKinds.{is_comment_mark, is_line_end, is_quote_mark, is_separator}
+use Rattle.ini_text.specs.Options.Backslashes as backslashes
 use Rattle.ini.specs.Texts.{Text}
 use Rattle.ini.specs.Properties.{Pairs, first_value}
 use Rattle.ini_check.specs.Traps.Lines.{is_line_taken}
@@ -13,6 +14,13 @@ use Rattle.ini_check.specs.Traps.Values.{value_of}
 -- a line end stands in it
 abbrev pub has_line_end : Text → Bool
 has_line_end source = list_any is_line_end source
+
+-- a line end stands in it that no backslash takes; `escaped` says whether one that takes stands before it
+abbrev pub has_bare_line_end : backslashes.Backslash → Bool → Text → Bool
+has_bare_line_end b escaped [] = false
+has_bare_line_end b escaped (c ∷ cs) =
+    (not escaped && is_line_end c)
+    || has_bare_line_end b (backslashes.begins_escape b c && not escaped) cs
 
 -- after blanks a comment's mark begins the key's source
 abbrev pub begins_like_comment : Text → Bool

@@ -8,7 +8,7 @@ ghost use Rattle.ini_check.specs.Traps.Lines.{is_like_pair, is_line_front, is_li
 ghost use Rattle.ini_check.specs.Traps.Lines.{joins_lines};
 ghost use Rattle.ini_check.specs.Traps.Lines.{is_word_character};
 
-use crate::lexical::{LexicalState, takes_next};
+use crate::lexical::LexicalState;
 use ini_text::{ParseOption, is_blank, is_comment_mark, is_line_end, split_first};
 
 /// Whether a text begins with a line end that a backslash before it takes.
@@ -36,7 +36,7 @@ pub(crate) fn joins_lines(read: ParseOption, state: LexicalState, text: &str) ->
     ensures { result ≡ joins_lines read state (chars text.now) }
 {
     match split_first(text) {
-        Some((c, after)) => state.is_outside() && takes_next(read, c) && is_line_taken(after),
+        Some((c, after)) => state.is_outside() && read.begins_escape(c) && is_line_taken(after),
         None => false,
     }
 }

@@ -4,7 +4,7 @@ ghost use Rattle.ini_text.specs.Grammar.CharacterKinds.{is_quote_mark};
 ghost use Rattle.ini_check.specs.Traps.Quotes.{ends_with_first, is_half_quoted, is_text_after_quote};
 ghost use Rattle.ini_check.specs.Traps.Quotes.{is_white_to_line_end, leaves_line, opens_unclosed};
 
-use crate::lexical::{LexicalState, takes_next};
+use crate::lexical::LexicalState;
 use ini_text::{ParseOption, is_comment_mark, is_line_end, split_first};
 
 /// Whether a character is a quote's mark.
@@ -37,7 +37,7 @@ fn leaves_line(read: ParseOption, mark: char, text: &str) -> bool
         if c == mark && !escaped {
             return false;
         }
-        escaped = takes_next(read, c) && !escaped;
+        escaped = read.begins_escape(c) && !escaped;
         rest = after;
     }
     false
@@ -87,7 +87,7 @@ fn ends_with_first(read: ParseOption, mark: char, text: &str) -> bool
         if is_line_end(c) {
             return false;
         }
-        escaped = takes_next(read, c) && !escaped;
+        escaped = read.begins_escape(c) && !escaped;
         rest = after;
     }
     false

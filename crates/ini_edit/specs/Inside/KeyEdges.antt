@@ -2,12 +2,13 @@
 use Rattle.std.specs.Prelude.{◌≡◌, true, false, List, ℕ, [], ◌++◌}
 use Rattle.std.specs.Char.{is_whitespace}
 use Rattle.std.specs.List.{list_all}
-use Rattle.ini_text.specs.Grammar.CharacterKinds.{BeginsWithNo}
-use Rattle.ini_text.specs.Grammar.WhiteSpace.{end_trimmed}
+use Rattle.ini_text.specs.Grammar.CharacterKinds.{BeginsWithNo, backslash}
+use Rattle.ini_text.specs.Grammar.Positions.{last_or}
 use Rattle.ini_text.specs.Escaping.EscapedTexts.{escaped}
+use Rattle.ini_text.specs.declared.option.LoneLine.{LoneLine}
 use Rattle.ini_text.specs.declared.option.ParseOption.{ParseOption}
 use Rattle.ini_text.specs.declared.write.policy.EscapePolicy.{EscapePolicy}
-use Rattle.ini_edit.specs.Renamed.{HasEdges}
+use Rattle.ini_edit.specs.Renamed.{HasEdges, is_key_white}
 
 -- a text is white space, and then the rest
 pub record BeginsWhite (text rest : List ℕ) : Type 0 where
@@ -20,12 +21,12 @@ pub record IsSkipped (text rest : List ℕ) : Type 0 where
   pub begins : BeginsWhite text rest
   pub no_more : BeginsWithNo is_whitespace rest
 
--- the white space is that with which a text ends
-pub record IsWhiteEnd (text white : List ℕ) : Type 0 where
+-- the white space is that with which a text ends, after a key
+pub record IsWhiteEnd (line : LoneLine) (text white : List ℕ) : Type 0 where
   pub front : List ℕ
   pub whole : text ≡ front ++ white
-  pub all : list_all is_whitespace white ≡ true
-  pub ends : end_trimmed front ≡ front
+  pub all : list_all (is_key_white line) white ≡ true
+  pub ends : is_key_white line (last_or backslash front) ≡ false
 
 -- the rest is a key's source from where the key begins
 pub record IsKeyStart (o : ParseOption) (source rest : List ℕ) : Type 0 where

@@ -45,7 +45,7 @@ element-some (Element.bracketed_header on str i) = omega arith
 element-some (Element.pair {k = k} {s = s} {m = m} front some separates value) =
     omega (arith, length-append k (m ∷ s))
 element-some (Element.dropped_blanks {w = w} i) = BeginsWith-some is_blank w i.some
-element-some (Element.dropped_key {w = w} {s = s} i begins str) =
+element-some (Element.dropped_key {w = w} {s = s} runs i begins str) =
     omega (arith, length-append w s, BeginsWith-some is_blank w i.some)
 
 -- after the rest of a text, an element moves the parser on

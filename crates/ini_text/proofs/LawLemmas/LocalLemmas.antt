@@ -56,8 +56,8 @@ module _ {b c : List ℕ} where
     Element-like a (Element.pair {s = s} {m = m} front some sep value) =
         Element.pair (KeyFront-like (Agree-front (m ∷ s) a) front) some sep value
     Element-like a (Element.dropped_blanks i) = Element.dropped_blanks (Indentation-like a i)
-    Element-like a (Element.dropped_key {s = s} i begins stops) =
-        Element.dropped_key (Indentation-like (Agree-front s a) i) begins stops
+    Element-like a (Element.dropped_key {s = s} runs i begins stops) =
+        Element.dropped_key runs (Indentation-like (Agree-front s a) i) begins stops
 
 -- texts that begin alike
 pub BeginAlike-same : (r : List ℕ) → BeginAlike r r

@@ -59,8 +59,8 @@ module _ (W : List ℕ) (one : is_column_one W ≡ true) where
     Element-after (Element.bracketed_header on str i) = Element.bracketed_header on str i
     Element-after (Element.pair front some sep value) = Element.pair (KeyFront-after front) some sep value
     Element-after (Element.dropped_blanks i) = Element.dropped_blanks (Indentation-after i)
-    Element-after (Element.dropped_key i begins stops) =
-        Element.dropped_key (Indentation-after i) begins stops
+    Element-after (Element.dropped_key runs i begins stops) =
+        Element.dropped_key runs (Indentation-after i) begins stops
 
     ElementStops-after : {b s r : List ℕ} {kind : ParseKind} → ElementStops o b s r kind
         → ElementStops o (W ++ b) s r kind
@@ -72,6 +72,8 @@ module _ (W : List ℕ) (one : is_column_one W ≡ true) where
     ElementStops-after (ElementStops.in_indented_key i begins stops n) =
         ElementStops.in_indented_key (Indentation-after i) begins stops n
     ElementStops-after (ElementStops.no_key front sep) = ElementStops.no_key (KeyFront-after front) sep
+    ElementStops-after (ElementStops.no_separator front end) =
+        ElementStops.no_separator (KeyFront-after front) end
     ElementStops-after (ElementStops.in_value front some sep stops) =
         ElementStops.in_value (KeyFront-after front) some sep stops
     ElementStops-after {b} (ElementStops.late_comment mark late) =
@@ -188,7 +190,7 @@ module _ {o : ParseOption} where
   header_element {r = r} y more (Element.pair {k} {s} {m = m} front some sep value) e =
       absurd (no_key y front (sym (append_assoc k (m ∷ s) r) ∙ e))
   header_element {r = r} y more (Element.dropped_blanks i) e = absurd (no_blank r y i e)
-  header_element {r = r} y more (Element.dropped_key {w} {s} i begins stops) e =
+  header_element {r = r} y more (Element.dropped_key {w} {s} runs i begins stops) e =
       absurd (no_blank (s ++ r) y i (sym (append_assoc w s r) ∙ e))
 
   nothing_empty : {b s r : List ℕ} {gives : List Given} → Element o b s r gives → [] ≡ s ++ r → ⊥

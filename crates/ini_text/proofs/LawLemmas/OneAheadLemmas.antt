@@ -102,7 +102,7 @@ module _ {o : ParseOption} where
   Element-alike a (Element.pair front some sep given) =
       Element.pair (KeyFront-alike Alike.same front) some sep (Value-alike a given)
   Element-alike a (Element.dropped_blanks ind) = elim a [ ]
-  Element-alike a (Element.dropped_key ind begins stops) = elim a [ ]
+  Element-alike a (Element.dropped_key runs ind begins stops) = elim a [ ]
 
   pub Reads-front : {T b c : List ℕ} {items : List Given} → Reads o T b items c → (m : List ℕ) × (b ++ m ≡ c)
   Reads-front {b = b} (Reads.stay r h) = ([], append-nil b)

@@ -176,6 +176,10 @@ module _ (o : ParseOption) where
       )
   ElementStops-stands x n uncut (ElementStops.no_key {k} {m = m} front sep) =
       (omega (arith, length-append k (m ∷ [])), ElementStops.no_key (KeyFront-alike Alike.same front) sep)
+  ElementStops-stands x n uncut (ElementStops.no_separator {k} {c = c} front end) = (
+    omega (arith, length-append k (c ∷ [])),
+    ElementStops.no_separator (KeyFront-alike Alike.same front) end,
+  )
   ElementStops-stands {b = b} {k = kind} x n uncut
       (ElementStops.in_value {k} {s} {r} {key} {m} front some sep stops) =
       let cut : IsCut (Value o) s r kind → IsCut (Element o b) (k ++ m ∷ s) r kind =

@@ -22,24 +22,21 @@ use Rattle.ini_text.specs.Grammar.Elements.{Given, Pair, Element, ElementStops}
 use Rattle.ini_text.specs.Grammar.Keys.{begins_key, begins_indented_key, KeyFront}
 use Rattle.ini_text.specs.Grammar.Places.{Stretches, value_source, pair_source, OwnLines, SpaceAfter, TrailingLines, ArePlaced}
 use Rattle.ini_text.specs.Grammar.Positions.{line_of, column_of}
-use Rattle.ini_text.specs.Grammar.Strings.{key_ends}
 use Rattle.ini_text.specs.Grammar.Values.{Value}
-use Rattle.ini_text.specs.Inside.ElementReader.{element}
+use Rattle.ini_text.specs.Inside.ElementReader.{element, key_string}
 use Rattle.ini_text.specs.Inside.ItemSearch.{StopIsWithin}
 use Rattle.ini_text.specs.Inside.PlaceReader.{BeginsPair, HasRests, HasTail, HasValueRests, IsHeader, ReadsPair}
 use Rattle.ini_text.specs.Inside.Reading.{Answer, found, stopped, altered_answer, StopsBy}
 use Rattle.ini_text.specs.Parsing.Items.{cow_text}
 use Rattle.ini_text.specs.Inside.Scans.{run_of, skipped}
-use Rattle.ini_text.specs.Inside.StringReader.{string}
 use Rattle.ini_text.specs.Inside.ValueReader.{value}
 use Rattle.ini_text.specs.Parsing.Fronts.{front_of, IsRest}
 use Rattle.ini_text.specs.Parsing.Parser.{memory, parse, TellsRefusal, refusal_of}
 use Rattle.ini_text.specs.Parsing.Places.{gives, HasPlaces, StandsBetween, StopsAfter, RefusesElement}
 use Rattle.ini_text.proofs.GrammarLemmas.ItemLemmas.{element-some}
 use Rattle.ini_text.proofs.GrammarLemmas.KindLemmas.{no_white_no_blank}
-use Rattle.ini_text.proofs.ReaderLemmas.ElementReaderLemmas.{element-says}
+use Rattle.ini_text.proofs.ReaderLemmas.ElementReaderLemmas.{element-says, key_string-reads}
 use Rattle.ini_text.proofs.ReaderLemmas.RunReaderLemmas.{run-finds, run-sound}
-use Rattle.ini_text.proofs.ReaderLemmas.StringReaderLemmas.{string-reads}
 use Rattle.ini_text.proofs.ReaderLemmas.ValueReaderLemmas.{value-reads}
 use Rattle.ini_text.proofs.StringLemmas.FrontLemmas.{front_is, front_grows}
 use Rattle.ini_text.proofs.PlaceLemmas.TailLemmas.{found_rest, found_stopped}
@@ -84,7 +81,7 @@ pair_of {o} {b} {r = r} {key} {v}
       given = subst (Value o x r) same_value given;
     }
 pair_of (Element.dropped_blanks ind) e = cc
-pair_of (Element.dropped_key ind begins stops) e = cc
+pair_of (Element.dropped_key runs ind begins stops) e = cc
 
 key_begins : (t : List ℕ) → BeginsWith begins_key t → skipped is_blank t ≡ t
 key_begins [] begins = cc
@@ -101,19 +98,17 @@ indented_begins (c ∷ t) begins =
 
 -- after the blanks of its line a key is read as a string
 key_read : {o : ParseOption} {b k x key : List ℕ} {m : ℕ} → KeyFront o b k (m ∷ x) key
-    → (u : List ℕ) × (string (backslash_of o) key_ends (skipped is_blank (k ++ m ∷ x)) ≡ found u (m ∷ x))
+    → (u : List ℕ) × (key_string o (skipped is_blank (k ++ m ∷ x)) ≡ found u (m ∷ x))
 key_read {o} {x = x} {m = m} (KeyFront.unindented {s} {v = v} begins str) = (
   v,
-  ap (string (backslash_of o) key_ends) (key_begins (s ++ m ∷ x) begins)
-      ∙ (string-reads (backslash_of o) key_ends refl).finds str,
+  ap (key_string o) (key_begins (s ++ m ∷ x) begins) ∙ (key_string-reads o).finds str,
 )
 key_read {o} {x = x} {m = m} (KeyFront.indented {w} {s} {v = v} ind begins str) =
     let following : skipped is_blank ((w ++ s) ++ m ∷ x) ≡ s ++ m ∷ x =
     ap (skipped is_blank) (append_assoc w s (m ∷ x))
     ∙ (run-finds is_blank w (s ++ m ∷ x) ind.blank (indented_begins (s ++ m ∷ x) begins)).1 in (
       v,
-      ap (string (backslash_of o) key_ends) following
-          ∙ (string-reads (backslash_of o) key_ends refl).finds str,
+      ap (key_string o) following ∙ (key_string-reads o).finds str,
     )
 
 -- what is read of a pair
@@ -123,7 +118,7 @@ pub record PairRead (o : ParseOption) (t r name : List ℕ) : Type 0 where
   pub k : List ℕ
   pub following : List ℕ
   pub v : List ℕ
-  pub key_is : string (backslash_of o) key_ends name ≡ found u (m ∷ following)
+  pub key_is : key_string o name ≡ found u (m ∷ following)
   pub value_is : value o following ≡ found v r
   pub whole : k ++ m ∷ following ≡ t
 
@@ -140,7 +135,7 @@ read_of {o} {t} {r} {name} {v = v} name_is holds whole =
       following = p.x ++ r;
       v = v;
       key_is =
-          ap (string (backslash_of o) key_ends) (name_is ∙ ap (skipped is_blank) (sym at_t))
+          ap (key_string o) (name_is ∙ ap (skipped is_blank) (sym at_t))
           ∙ (key_read p.front).1;
       value_is = (value-reads o).finds p.given;
       whole = at_t;
@@ -152,7 +147,7 @@ pair_read (b, s, key, v, holds, whole) name_is = read_of name_is holds whole
 
 module _ {o : ParseOption} {t r name : List ℕ} (p : PairRead o t r name) where
   module _ {out after_key : List ℕ}
-      (read : string (backslash_of o) key_ends name ≡ found out after_key) where
+      (read : key_string o name ≡ found out after_key) where
     pub after_key_is : after_key ≡ p.m ∷ p.following
     after_key_is = found_rest (sym read ∙ p.key_is)
 
@@ -205,10 +200,10 @@ made_of key_s sep lead_s own pad tail_s =
 module _ {o : ParseOption} (t r : List ℕ)
     {name out after_key after start tail own pad key_s lead_s tail_s gives : List ℕ} {sep : ℕ}
     (name_is : name ≡ skipped is_blank t)
-    (read : string (backslash_of o) key_ends name ≡ found out after_key)
+    (read : key_string o name ≡ found out after_key)
     (splits : after_key ≡ sep ∷ after) (h : HasTail o after start tail gives r)
     (key_cut : key_s ≡ front_of t after_key) (lead_cut : lead_s ≡ front_of after start)
-    (own_cut : front_of start tail ≡ own ++ pad) (padded : SpaceAfter own pad)
+    (own_cut : front_of start tail ≡ own ++ pad) (padded : SpaceAfter (backslash_of o) own pad)
     (tail_cut : tail_s ≡ front_of tail r) where
   own_is : h.own ≡ own ++ pad
   own_is = sym (front_is h.own tail start (sym h.own_is)) ∙ own_cut
@@ -382,7 +377,7 @@ module _ (o : ParseOption) (t : List ℕ) (rests : Rests) where
   header_rests (Err e) h = tt
 
   some_rests : {after_key : List ℕ} (r u : List ℕ)
-      → string (backslash_of o) key_ends (skipped is_blank t) ≡ found u after_key
+      → key_string o (skipped is_blank t) ≡ found u after_key
       → (g : Option BorrowedItem) → HasValueRests o after_key rests g r → HasRests o t rests g r
   some_rests r u read None h = tt
   some_rests r u read (Some (items.Header name)) h = tt
@@ -391,7 +386,7 @@ module _ (o : ParseOption) (t : List ℕ) (rests : Rests) where
       (cow_text v) r) (sym h.0) (record { key = u; key_is = read; value_is = h.1 })
 
   pub value_rests : {after_key u : List ℕ}
-      → string (backslash_of o) key_ends (skipped is_blank t) ≡ found u after_key
+      → key_string o (skipped is_blank t) ≡ found u after_key
       → (r : Result (Option BorrowedItem × Bor (List ℕ)) Stop)
       → IfOk r (λ p. HasValueRests o after_key rests p.0 (chars p.1.now))
       → IfOk r (λ p. HasRests o t rests p.0 (chars p.1.now))

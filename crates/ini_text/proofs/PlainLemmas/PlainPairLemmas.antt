@@ -1,11 +1,13 @@
 -- Pairs as they are written, read back.
-use Rattle.std.proofs.Common.{◌≡◌, ◌≢◌, ◌⊎◌, inl, inr, ℕ, Bool, true, false, not, ◌||◌, ◌&&◌, cond, eqb, eqb-true, List, [], ◌∷◌, ◌++◌, refl, sym, ap, ◌∙◌, subst, append_assoc, append-nil, arith, Option, Some, None, chars}
+use Rattle.std.proofs.Common.{◌≡◌, ◌≢◌, ◌⊎◌, inl, inr, ℕ, Bool, true, false, not, ◌||◌, ◌&&◌, cond, eqb, eqb-true, List, [], ◌∷◌, ◌++◌, refl, sym, ap, ◌∙◌, subst, append_assoc, append-nil, Option, Some, None, chars}
 use Rattle.std.proofs.lemmas.Bool.{cond_both, cond-true, cond-false, or_left, or_right, or_from, or_cases, and_left, and_right, and_parts, and_from, both_ways, false_from_ne_true, cases_Bool}
 use Rattle.std.specs.Char.{is_whitespace}
 use Rattle.std.specs.List.{list_all}
 use Rattle.ini_text.proofs.ReaderLemmas.StringReaderLemmas.{no-backslash}
 use Rattle.ini_text.specs.Options.Backslashes.{Backslash}
 use Rattle.ini_text.specs.Options.ReadOptions.{backslash_of}
+use Rattle.ini_text.specs.declared.option.LoneLine.{LoneLine}
+use Rattle.ini_text.specs.declared.option.LoneLine.TheVariants.{RunsOn, Refused}
 use Rattle.ini_text.specs.declared.option.ParseOption.{ParseOption}
 use Rattle.ini_text.specs.declared.write.policy.EscapePolicy.{EscapePolicy}
 use Rattle.ini_text.specs.declared.write.policy.EscapePolicy.TheVariants.{Nothing, Basics, BasicsUnicode, BasicsUnicodeExtended, Reserved, ReservedUnicode, ReservedUnicodeExtended, Everything}
@@ -116,43 +118,80 @@ module _ {o : ParseOption} (policy : EscapePolicy) where
   follows_multiline (FollowsPair.pair r (IsPlainKey.after_spaces spaces kept off all bare)) on =
       absurd (both_ways o.enabled_indented_mutiline_value off on)
 
+-- a text that is read back has no raw line end
+pub value_no_end : {escapes : Backslash} {policy : EscapePolicy} {value : List ℕ}
+    → AllRead escapes policy value
+    → NoRawEnd policy plain_ends value
+value_no_end AllRead.none = refl
+value_no_end {policy = policy} (AllRead.more {c} one all) =
+    and_from (not (is_endpoint plain_ends c) || is_escaped policy c) _
+    (elim (cases_Bool (is_escaped policy c)) [
+      | inl h ↦ or_right (not (is_endpoint plain_ends c)) (is_escaped policy c) h
+      | inr h ↦ or_left (not (is_endpoint plain_ends c)) (is_escaped policy c)
+          (ap not (at (eqb c 0x0A) (eqb c 0x0D) (one.no_line_end h)))
+    ])
+    (value_no_end all)
+  where
+    at : (x y : Bool) → (x || y) ≡ false → (x || (y || false)) ≡ false
+    at true y h = h
+    at false true h = h
+    at false false h = h
+
+-- where a key ends its characters are not those of a key, and a separator is
+blank_no_key_end : (line : LoneLine) (c : ℕ) → is_blank c ≡ true → is_endpoint (key_ends line) c ≡ false
+blank_no_key_end RunsOn c h = elim (or_cases (eqb c 0x20) (eqb c 0x09) h)
+    [ inl q ↦ rw (eqb-true c 0x20 q) refl | inr q ↦ rw (eqb-true c 0x09 q) refl ]
+blank_no_key_end Refused c h = elim (or_cases (eqb c 0x20) (eqb c 0x09) h)
+    [ inl q ↦ rw (eqb-true c 0x20 q) refl | inr q ↦ rw (eqb-true c 0x09 q) refl ]
+
 -- blanks stand for themselves in a key
-blank_row : {escapes : Backslash} (w : List ℕ) → list_all is_blank w ≡ true → Row escapes key_ends w w
-blank_row [] h = Row.none
-blank_row (c ∷ w) h =
+blank_row : {escapes : Backslash} (line : LoneLine) (w : List ℕ) → list_all is_blank w ≡ true
+    → Row escapes (key_ends line) w w
+blank_row line [] h = Row.none
+blank_row line (c ∷ w) h =
     let parts = and_parts (is_blank c) (list_all is_blank w) h in
-    elim (or_cases (eqb c 0x20) (eqb c 0x09) parts.0) [
-      | inl q ↦
-          let e = eqb-true c 0x20 q in
-          let no_end : is_endpoint key_ends c ≡ false =
-          subst (λ x. is_endpoint key_ends x ≡ false) (sym e) refl in
-          Row.raw (no-backslash _ _ (λ s. absurd (omega arith))) no_end (blank_row w parts.1)
-      | inr q ↦
-          let e = eqb-true c 0x09 q in
-          let no_end : is_endpoint key_ends c ≡ false =
-          subst (λ x. is_endpoint key_ends x ≡ false) (sym e) refl in
-          Row.raw (no-backslash _ _ (λ s. absurd (omega arith))) no_end (blank_row w parts.1)
-    ]
+    Row.raw (no-backslash _ _ (λ s. blank_no_backslash c s parts.0)) (blank_no_key_end line c parts.0)
+    (blank_row line w parts.1)
+  where
+    blank_no_backslash : (c : ℕ) → c ≡ backslash → is_blank c ≡ true → ⊥
+    blank_no_backslash c s h = let z = subst (λ x. is_blank x ≡ true) s h in cc
 
-pub separator_closes : (m : ℕ) → is_separator m ≡ true → is_endpoint key_ends m ≡ true
-separator_closes m h = elim (or_cases (eqb m 0x3D) (eqb m 0x3A) h) [
-  | inl q ↦ or_left (eqb m 0x3D) _ q
-  | inr q ↦ or_right (eqb m 0x3D) _ (or_left (eqb m 0x3A) false q)
-]
+pub separator_closes : (line : LoneLine) (m : ℕ) → is_separator m ≡ true
+    → is_endpoint (key_ends line) m ≡ true
+separator_closes RunsOn m h = elim (or_cases (eqb m 0x3D) (eqb m 0x3A) h)
+    [ inl q ↦ rw (eqb-true m 0x3D q) refl | inr q ↦ rw (eqb-true m 0x3A q) refl ]
+separator_closes Refused m h = elim (or_cases (eqb m 0x3D) (eqb m 0x3A) h)
+    [ inl q ↦ rw (eqb-true m 0x3D q) refl | inr q ↦ rw (eqb-true m 0x3A q) refl ]
 
-key_no_end : (policy : EscapePolicy) (key : List ℕ)
-    → list_all (λ c. not (is_separator c) || is_escaped policy c) key ≡ true → NoRawEnd policy key_ends key
-key_no_end policy [] h = refl
-key_no_end policy (c ∷ cs) h =
+-- a text without raw separators and line ends has no raw end of a key
+pub key_no_end : (line : LoneLine) (policy : EscapePolicy) (key : List ℕ)
+    → list_all (λ c. not (is_separator c) || is_escaped policy c) key ≡ true
+    → NoRawEnd policy plain_ends key → NoRawEnd policy (key_ends line) key
+key_no_end line policy [] h free = refl
+key_no_end line policy (c ∷ cs) h free =
     let parts = and_parts (not (is_separator c) || is_escaped policy c)
     (list_all (λ c. not (is_separator c) || is_escaped policy c) cs) h in
-    and_from (not (is_endpoint key_ends c) || is_escaped policy c) _
-    (at (eqb c 0x3D) (eqb c 0x3A) (is_escaped policy c) parts.0) (key_no_end policy cs parts.1)
+    let frees = and_parts (not (is_endpoint plain_ends c) || is_escaped policy c)
+    (list_all (λ c. not (is_endpoint plain_ends c) || is_escaped policy c) cs) free in
+    and_from (not (is_endpoint (key_ends line) c) || is_escaped policy c) _
+    (at line parts.0 frees.0) (key_no_end line policy cs parts.1 frees.1)
   where
-    at : (x y z : Bool) → (not (x || y) || z) ≡ true → (not (x || (y || false)) || z) ≡ true
-    at true y z h = h
-    at false true z h = h
-    at false false z h = h
+    runs : (x y z : Bool) → (not (x || y) || z) ≡ true → (not (x || (y || false)) || z) ≡ true
+    runs true y z h = h
+    runs false true z h = h
+    runs false false z h = h
+
+    refused : (x y l r z : Bool) → (not (x || y) || z) ≡ true → (not (l || (r || false)) || z) ≡ true
+        → (not (x || (y || (l || (r || false)))) || z) ≡ true
+    refused true y l r z h k = h
+    refused false true l r z h k = h
+    refused false false l r z h k = k
+
+    at : (line : LoneLine) → (not (is_separator c) || is_escaped policy c) ≡ true
+        → (not (is_endpoint plain_ends c) || is_escaped policy c) ≡ true
+        → (not (is_endpoint (key_ends line) c) || is_escaped policy c) ≡ true
+    at RunsOn h k = runs (eqb c 0x3D) (eqb c 0x3A) (is_escaped policy c) h
+    at Refused h k = refused (eqb c 0x3D) (eqb c 0x3A) (eqb c 0x0A) (eqb c 0x0D) (is_escaped policy c) h k
 
 -- a bare key, and blanks after it, before a separator
 module _ {o : ParseOption} {policy : EscapePolicy} {key : List ℕ} (bare : IsBareKey o policy key)
@@ -164,10 +203,12 @@ module _ {o : ParseOption} {policy : EscapePolicy} {key : List ℕ} (bare : IsBa
   ]
 
   bare_string : (w r : List ℕ) (m : ℕ) → list_all is_blank w ≡ true → is_separator m ≡ true
-      → Str (backslash_of o) key_ends (escaped policy key ++ w) (m ∷ r) (key ++ w)
+      → Str (backslash_of o) (key_ends o.line_without_separator) (escaped policy key ++ w) (m ∷ r) (key ++ w)
   bare_string w r m blank sep =
-      Str.closed (row_escaped key all (key_no_end policy key bare.no_separator) (blank_row w blank))
-      (separator_closes m sep)
+      let line = o.line_without_separator in
+      Str.closed
+      (row_escaped key all (key_no_end line policy key bare.no_separator (value_no_end all))
+      (blank_row line w blank)) (separator_closes line m sep)
 
   bare_key : (w : List ℕ) → list_all is_blank w ≡ true
       → cond o.enabled_preserve_key_leading_whitespace (end_trimmed (key ++ w)) (trimmed (key ++ w)) ≡ key
@@ -265,24 +306,6 @@ module _ {o : ParseOption} {policy : EscapePolicy} where
   key_some (IsPlainKey.after_spaces {key} spaces kept off all bare) = some_after spaces key bare.some
 
 -- values
-pub value_no_end : {escapes : Backslash} {policy : EscapePolicy} {value : List ℕ}
-    → AllRead escapes policy value
-    → NoRawEnd policy plain_ends value
-value_no_end AllRead.none = refl
-value_no_end {policy = policy} (AllRead.more {c} one all) =
-    and_from (not (is_endpoint plain_ends c) || is_escaped policy c) _
-    (elim (cases_Bool (is_escaped policy c)) [
-      | inl h ↦ or_right (not (is_endpoint plain_ends c)) (is_escaped policy c) h
-      | inr h ↦ or_left (not (is_endpoint plain_ends c)) (is_escaped policy c)
-          (ap not (at (eqb c 0x0A) (eqb c 0x0D) (one.no_line_end h)))
-    ])
-    (value_no_end all)
-  where
-    at : (x y : Bool) → (x || y) ≡ false → (x || (y || false)) ≡ false
-    at true y h = h
-    at false true h = h
-    at false false h = h
-
 pub line_end_closes : (l : ℕ) → is_line_end l ≡ true → is_endpoint plain_ends l ≡ true
 line_end_closes l h = at (eqb l 0x0A) (eqb l 0x0D) h
   where

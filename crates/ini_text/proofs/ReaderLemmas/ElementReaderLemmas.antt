@@ -1,17 +1,21 @@
 -- Reading an element by the character with which it begins: the reader finds what the grammar says, and the
 -- code gives it.
-use Rattle.std.proofs.Common.{◌≡◌, ◌≢◌, ℕ, Bool, true, false, not, ◌&&◌, ◌||◌, ◌==◌, if◌then◌else◌, List, [], ◌∷◌, ◌++◌, drop, Option, Some, None, inl, inr, refl, sym, ap, ◌∙◌, subst, append_assoc, append-nil, eqb-true, ne_eqb}
+use Rattle.std.proofs.Common.{◌≡◌, ◌≢◌, ℕ, Bool, true, false, not, ◌&&◌, ◌||◌, ◌==◌, if◌then◌else◌, List, [], ◌∷◌, ◌++◌, drop, Option, Some, None, inl, inr, refl, sym, ap, ◌∙◌, subst, subst₂, append_assoc, append-nil, chars, eqb-true, ne_eqb}
 use Rattle.std.proofs.Math.Bool.{or-false}
-use Rattle.std.proofs.lemmas.Bool.{cases_Bool, cond-true, cond-false, and_parts, or_parts, not-true, not-false}
+use Rattle.std.proofs.lemmas.Bool.{cases_Bool, cond-true, cond-false, and_parts, or_cases, or_parts, not-true, not-false}
 use Rattle.std.specs.Char.{is_whitespace}
 use Rattle.std.specs.List.{list_all}
 use Rattle.ini_text.specs.Options.Backslashes.{Backslash}
 use Rattle.ini_text.specs.Options.ReadOptions.{backslash_of}
+use Rattle.ini_text.specs.declared.option.LoneLine.{LoneLine}
+use Rattle.ini_text.specs.declared.option.LoneLine.TheVariants.{RunsOn, Refused}
 use Rattle.ini_text.specs.declared.option.ParseOption.{ParseOption}
+use Rattle.ini_text.specs.declared.parser.fault.Stop.{Stop}
+use Rattle.ini_text.specs.declared.parser.fault.Stop.TheVariants as stops
+use Rattle.ini_text.specs.declared.parser.endpoints.Endpoints.TheVariants as endpoints
 use Rattle.ini_text.specs.declared.error.ParseKind.{ParseKind}
 use Rattle.ini_text.specs.declared.error.ParseKind.TheVariants.{EndOfText, InlineComment}
-use Rattle.ini_text.specs.declared.error.ParseKind.TheVariants as kinds
-use Rattle.ini_text.specs.Grammar.CharacterKinds.{line_feed, open_bracket, close_bracket, is_line_end, is_blank, is_separator, is_comment_mark, BeginsWith, BeginsWithNo}
+use Rattle.ini_text.specs.Grammar.CharacterKinds.{carriage_return, colon, equals, line_feed, open_bracket, close_bracket, is_line_end, is_blank, is_separator, is_comment_mark, BeginsWith, BeginsWithNo}
 use Rattle.ini_text.specs.Grammar.EscapeSequences.{EscapeStops}
 use Rattle.ini_text.specs.Grammar.Positions.{starts_line, is_column_one}
 use Rattle.ini_text.specs.Grammar.WhiteSpace.{trimmed, end_trimmed}
@@ -19,8 +23,8 @@ use Rattle.ini_text.specs.Grammar.Strings.{Ends, is_endpoint, Str, StrStops, nam
 use Rattle.ini_text.specs.Grammar.Values.{Value, ValueStops}
 use Rattle.ini_text.specs.Grammar.Keys.{Indentation, begins_key, begins_indented_key, KeyFront}
 use Rattle.ini_text.specs.Grammar.Elements.{Given, Gap, Element, ElementStops}
-use Rattle.ini_text.specs.Inside.ElementReader.{name_in, header, header_of_name, bracketed_header, after_bracket, pair_of_value, after_separator, trimmed_key, pair_of_key, unindented_pair, dropped_tail, indented_pair_of_key, kept_blanks, indented_pair, after_blanks, is_comment_part, element}
-use Rattle.ini_text.specs.Inside.Reading.{Answer, found, stopped, prepend, altered_answer}
+use Rattle.ini_text.specs.Inside.ElementReader.{after_key, key_string, name_in, header, header_of_name, bracketed_header, after_bracket, pair_of_value, after_separator, trimmed_key, pair_of_key, unindented_pair, dropped_tail, indented_pair_of_key, kept_blanks, indented_pair, after_blanks, is_comment_part, element}
+use Rattle.ini_text.specs.Inside.Reading.{Answer, found, stopped, prepend, altered_answer, StopsBy}
 use Rattle.ini_text.specs.Inside.Scans.{run_of, skipped, trimmed_at}
 use Rattle.ini_text.specs.Inside.StringReader.{string}
 use Rattle.ini_text.specs.Inside.ValueReader.{value}
@@ -29,7 +33,7 @@ use Rattle.ini_text.proofs.GrammarLemmas.BracketedNameLemmas.{finds_name, name_f
 use Rattle.ini_text.proofs.GrammarLemmas.KindLemmas.{no_white_no_blank, line_end_no_blank, comment_mark-apart}
 use Rattle.ini_text.proofs.ReaderLemmas.ReaderLemmas.{Says, IsReader, prepend-nil}
 use Rattle.ini_text.proofs.ReaderLemmas.RunReaderLemmas.{run-finds, run-sound}
-use Rattle.ini_text.proofs.ReaderLemmas.StringReaderLemmas.{StringSays, string-reads}
+use Rattle.ini_text.proofs.ReaderLemmas.StringReaderLemmas.{StringSays, no_backslash_ends, string-reads}
 use Rattle.ini_text.proofs.ReaderLemmas.ValueReaderLemmas.{value-reads}
 use Rattle.ini_text.proofs.StringLemmas.FrontLemmas.{front_is}
 
@@ -66,10 +70,14 @@ indented_value true w v = refl
 indented_value false w v = refl
 
 -- after a key, and where an indented key begins
-pub after_key : (o : ParseOption) (key r : List ℕ) → key ≢ []
+pub value_after : (o : ParseOption) (key r : List ℕ) → key ≢ []
     → after_separator o key r ≡ pair_of_value key (value o r)
-after_key o [] r some = absurd (some refl)
-after_key o (c ∷ key) r some = refl
+value_after o [] r some = absurd (some refl)
+value_after o (c ∷ key) r some = refl
+
+pub separated : (o : ParseOption) (key : List ℕ) {t r : List ℕ} {c : ℕ} → t ≡ c ∷ r → is_line_end c ≡ false
+    → after_key o key t ≡ after_separator o key r
+separated o key is other = rw (is, other) refl
 
 pub key_at : (o : ParseOption) (w : List ℕ) {t cs : List ℕ} {c : ℕ} → t ≡ c ∷ cs → is_line_end c ≡ false
     → c ≢ open_bracket → after_blanks o w t ≡ indented_pair o w t
@@ -80,6 +88,53 @@ pub unkept : (o : ParseOption) (w : List ℕ) (a : Answer ℕ)
     → o.enabled_preserve_key_leading_whitespace ≡ false
     → trimmed_key o (prepend (kept_blanks o w) a) ≡ altered_answer (trimmed_at true) a
 unkept o w a off = rw off (ap (altered_answer (trimmed_at true)) (prepend-nil a))
+
+-- where keys run on, other stops than the text's end stay; else all
+pub not_dropped : (line : LoneLine) (r : List ℕ) (kind : ParseKind)
+    → (line ≡ RunsOn → kind ≢ EndOfText) → dropped_tail line r kind ≡ stopped r kind
+not_dropped RunsOn r EndOfText other = absurd (other refl refl)
+not_dropped RunsOn r kind other = refl
+not_dropped Refused r kind other = refl
+
+-- where lines without separator are refused, each stop stays
+pub refused_stays : (o : ParseOption) (a : Answer ℕ) (stop : Stop) → o.line_without_separator ≡ Refused
+    → StopsBy a stop → StopsBy (indented_pair_of_key o a) stop
+refused_stays o a stops.Memory refuses h = tt
+refused_stays o a (stops.Fault fault) refuses h =
+    ap (indented_pair_of_key o) h
+    ∙ ap (λ l. dropped_tail l (chars fault.rest.now) fault.kind) refuses
+
+pub runs_on : (line : LoneLine) → line ≢ Refused → line ≡ RunsOn
+runs_on RunsOn other = refl
+runs_on Refused other = absurd (other refl)
+
+-- a key ends at a separator or at a line end, and not at the text's end
+no_key_at_end : (line : LoneLine) → (key_ends line).text ≡ false
+no_key_at_end RunsOn = refl
+no_key_at_end Refused = refl
+
+key_end_separates : (line : LoneLine) (m : ℕ) → is_endpoint (key_ends line) m ≡ true
+    → is_line_end m ≡ false → is_separator m ≡ true
+key_end_separates RunsOn m ends other = rw (or-false (m == colon)) at ends
+key_end_separates Refused m ends other =
+    at (m == equals) (m == colon) (m == line_feed) (m == carriage_return) ends other
+  where
+    at : (x y l r : Bool) → (x || (y || (l || (r || false)))) ≡ true → (l || r) ≡ false → (x || y) ≡ true
+    at true y l r h k = refl
+    at false true l r h k = refl
+    at false false false false h k = h
+    at false false true r h k = let z : true ≡ false = k in cc
+    at false false false true h k = let z : true ≡ false = k in cc
+
+separator_no_line_end : (m : ℕ) → is_separator m ≡ true → is_line_end m ≡ false
+separator_no_line_end m h = elim (or_cases (m == equals) (m == colon) h)
+    [ inl q ↦ rw (eqb-true m 0x3D q) refl | inr q ↦ rw (eqb-true m 0x3A q) refl ]
+
+pub key_string-reads : (o : ParseOption) → IsReader (Str (backslash_of o) (key_ends o.line_without_separator))
+    (StrStops (backslash_of o) (key_ends o.line_without_separator)) (key_string o)
+key_string-reads o =
+    string-reads (backslash_of o) (key_ends o.line_without_separator)
+    (no_backslash_ends (endpoints.Key o.line_without_separator))
 
 module _ (o : ParseOption) (b : List ℕ) where
   no_line_start : (c : ℕ) → (is_blank c ≡ true → starts_line b ≡ false)
@@ -97,20 +152,13 @@ module _ (o : ParseOption) (b : List ℕ) where
       (string (backslash_of o) name_ends)
   name-reads = string-reads (backslash_of o) name_ends refl
 
-  key-reads : IsReader (Str (backslash_of o) key_ends) (StrStops (backslash_of o) key_ends)
-      (string (backslash_of o) key_ends)
-  key-reads = string-reads (backslash_of o) key_ends refl
+  key-reads : IsReader (Str (backslash_of o) (key_ends o.line_without_separator))
+      (StrStops (backslash_of o) (key_ends o.line_without_separator)) (key_string o)
+  key-reads = key_string-reads o
 
   line-reads : IsReader (Str (backslash_of o) bracketed_name_ends)
       (StrStops (backslash_of o) bracketed_name_ends) (string (backslash_of o) bracketed_name_ends)
   line-reads = string-reads (backslash_of o) bracketed_name_ends refl
-
-  -- what follows a string begins with an endpoint
-  key-separator : {s r v : List ℕ} → Str (backslash_of o) key_ends s r v
-      → (m : ℕ) × (x : List ℕ) × (r ≡ m ∷ x) × (is_separator m ≡ true)
-  key-separator {r = []} (Str.closed k h) = cc
-  key-separator {r = m ∷ x} (Str.closed k h) = (m, x, refl, rw (or-false (m == 0x3A)) at h)
-  key-separator (Str.lone sp k h) = cc
 
   name-bracket : {s r v : List ℕ} → Str (backslash_of o) name_ends s r v
       → (x : List ℕ) × (r ≡ close_bracket ∷ x)
@@ -134,22 +182,33 @@ module _ (o : ParseOption) (b : List ℕ) where
           let before = subst (λ y. KeyFront o b k (m ∷ y) (c ∷ key)) (sym h) front in
           (k ++ m ∷ s, ElementStops.in_value before (λ q. cc) sep stops, simp (append_assoc, h))
 
+  after_key-sound : {k r : List ℕ} {m : ℕ} (key : List ℕ) → KeyFront o b k (m ∷ r) key
+      → is_endpoint (key_ends o.line_without_separator) m ≡ true
+      → ElementSays (k ++ m ∷ r) (after_key o key (m ∷ r))
+  after_key-sound {k} {r} {m} key front ends = elim (cases_Bool (is_line_end m)) [
+    | inl end ↦ rw end (k ++ m ∷ [], ElementStops.no_separator front end, append_assoc k (m ∷ []) r)
+    | inr other ↦ rw other
+        (after_separator-sound key front (key_end_separates o.line_without_separator m ends other))
+  ]
+
   pair_of_key-sound : (w : List ℕ) {s r v t : List ℕ} (key : List ℕ)
-      → ((x : List ℕ) → s ++ x ≡ t → Str (backslash_of o) key_ends s x v → KeyFront o b (w ++ s) x key)
-      → Str (backslash_of o) key_ends s r v → s ++ r ≡ t
-      → ElementSays (w ++ t) (after_separator o key (drop 1 r))
+      → ((x : List ℕ) → s ++ x ≡ t → Str (backslash_of o) (key_ends o.line_without_separator) s x v
+      → KeyFront o b (w ++ s) x key)
+      → Str (backslash_of o) (key_ends o.line_without_separator) s r v → s ++ r ≡ t
+      → ElementSays (w ++ t) (after_key o key r)
   pair_of_key-sound w {s} {r} {v} {t} key front str h =
-      let x = key-separator str in
+      let x = endpoint_follows str (no_key_at_end o.line_without_separator) in
       let whole : s ++ x.0 ∷ x.1 ≡ t = ap (λ y. s ++ y) (sym x.2) ∙ h in
-      rw x.2 (subst (λ y. ElementSays y (after_separator o key x.1))
+      rw x.2 (subst (λ y. ElementSays y (after_key o key (x.0 ∷ x.1)))
       (append_assoc w s (x.0 ∷ x.1) ∙ ap (λ y. w ++ y) whole)
-      (after_separator-sound
-      key (front (x.0 ∷ x.1) whole (subst (λ y. Str (backslash_of o) key_ends s y v) x.2 str)) x.3))
+      (after_key-sound key (front (x.0 ∷ x.1) whole
+      (subst (λ y. Str (backslash_of o) (key_ends o.line_without_separator) s y v) x.2 str)) x.3))
 
   unindented_pair-sound : (t : List ℕ) → BeginsWith begins_key t → (a : Answer ℕ)
-      → StringSays (backslash_of o) key_ends t a → ElementSays t (pair_of_key o (trimmed_key o a))
+      → StringSays (backslash_of o) (key_ends o.line_without_separator) t a
+      → ElementSays t (pair_of_key o (trimmed_key o a))
   unindented_pair-sound t begins (found v r) (s, str, h) =
-      subst (λ k. ElementSays t (after_separator o k (drop 1 r)))
+      subst (λ k. ElementSays t (after_key o k r))
       (sym (key_value o.enabled_preserve_key_leading_whitespace v))
       (pair_of_key-sound [] _ (λ x q k. KeyFront.unindented (subst (BeginsWith begins_key) (sym q) begins) k)
       str
@@ -158,27 +217,37 @@ module _ (o : ParseOption) (b : List ℕ) where
       (s, ElementStops.in_key (subst (BeginsWith begins_key) (sym h) begins) stops, h)
 
   indented_pair-sound : (w t : List ℕ) → Indentation b w → BeginsWith begins_indented_key t → (a : Answer ℕ)
-      → StringSays (backslash_of o) key_ends t a
+      → StringSays (backslash_of o) (key_ends o.line_without_separator) t a
       → ElementSays (w ++ t) (indented_pair_of_key o (trimmed_key o (prepend (kept_blanks o w) a)))
   indented_pair-sound w t ind begins (found v r) (s, str, h) =
-      subst (λ k. ElementSays (w ++ t) (after_separator o k (drop 1 r)))
+      subst (λ k. ElementSays (w ++ t) (after_key o k r))
       (sym (indented_value o.enabled_preserve_key_leading_whitespace w v))
       (pair_of_key-sound w
       _ (λ x q k. KeyFront.indented ind (subst (BeginsWith begins_indented_key) (sym q) begins) k) str h)
   indented_pair-sound w t ind begins (stopped r k) (s, stops, h) =
-      by k stops (subst (BeginsWith begins_indented_key) (sym h) begins)
+      by o.line_without_separator refl k stops
     where
       whole : (w ++ s) ++ r ≡ w ++ t
       whole = append_assoc w s r ∙ ap (λ y. w ++ y) h
 
-      by : (k : ParseKind) → StrStops (backslash_of o) key_ends s r k
-          → BeginsWith begins_indented_key (s ++ r) → ElementSays (w ++ t) (dropped_tail r k)
-      by EndOfText stops begins =
+      text : BeginsWith begins_indented_key (s ++ r)
+      text = subst (BeginsWith begins_indented_key) (sym h) begins
+
+      refused : (k : ParseKind) → StrStops (backslash_of o) (key_ends o.line_without_separator) s r k
+          → (o.line_without_separator ≡ RunsOn → k ≢ EndOfText) → ElementSays (w ++ t) (stopped r k)
+      refused k stops other = (w ++ s, ElementStops.in_indented_key ind text stops other, whole)
+
+      by : (line : LoneLine) → o.line_without_separator ≡ line → (k : ParseKind)
+          → StrStops (backslash_of o) (key_ends o.line_without_separator) s r k
+          → ElementSays (w ++ t) (dropped_tail line r k)
+      by RunsOn runs EndOfText stops =
           let none : r ≡ [] = stopped_at_end stops refl in
-          let key = Element.dropped_key ind (rw (none, append-nil s) at begins)
-          (subst (λ y. StrStops (backslash_of o) key_ends s y EndOfText) none stops) in
+          let key = Element.dropped_key runs ind (rw (none, append-nil s) at text)
+          (subst₂ (λ l y. StrStops (backslash_of o) (key_ends l) s y EndOfText) runs none stops) in
           (w ++ s, subst (λ y. Element o b (w ++ s) y []) (sym none) key, whole)
-      by k stops begins = (w ++ s, ElementStops.in_indented_key ind begins stops (λ q. cc), whole)
+      by RunsOn runs k stops = refused k stops (λ _ q. cc)
+      by Refused refuses k stops =
+          refused k stops (λ runs. let z : RunsOn ≡ Refused = sym runs ∙ refuses in cc)
 
   after_blanks-sound : (w t : List ℕ) → Indentation b w → BeginsWithNo is_blank t
       → ElementSays (w ++ t) (after_blanks o w t)
@@ -188,7 +257,7 @@ module _ (o : ParseOption) (b : List ℕ) where
     | inr n ↦ elim (cases_Bool (c == open_bracket)) [
       | inl q ↦ rw (eqb-true c 91 q) (w, Element.gap (Gap.before_header ind), refl)
       | inr m ↦ rw (n, m) (indented_pair-sound w (c ∷ cs) ind (rw (other, n, m) refl)
-          (string (backslash_of o) key_ends (c ∷ cs)) (key-reads.sound (c ∷ cs)))
+          (key_string o (c ∷ cs)) (key-reads.sound (c ∷ cs)))
     ]
   ]
 
@@ -285,7 +354,7 @@ module _ (o : ParseOption) (b : List ℕ) where
         | inr m ↦ elim (cases_Bool (c == open_bracket)) [
           | inl q ↦ rw (eqb-true c 91 q) (after_bracket-sound cs)
           | inr k ↦ rw (n, x, m, k)
-              (unindented_pair-sound (c ∷ cs) (rw (x, m, k) refl) (string (backslash_of o) key_ends (c ∷ cs))
+              (unindented_pair-sound (c ∷ cs) (rw (x, m, k) refl) (key_string o (c ∷ cs))
               (key-reads.sound (c ∷ cs)))
         ]
       ]
@@ -318,14 +387,18 @@ module _ (o : ParseOption) (b : List ℕ) where
       let y = or_parts (is_whitespace c) (is_comment_mark c) x.0 in
       rw (no_white_no_blank c y.0, y.0, y.1, x.1)
 
+  element-ended_key : {k x key : List ℕ} {m : ℕ} → KeyFront o b k (m ∷ x) key
+      → element o b (k ++ m ∷ x) ≡ after_key o key (m ∷ x)
+  element-ended_key {x = x} {m = m} (KeyFront.unindented {s} {v = v} begins str) =
+      rw (element-unindented_pair (s ++ m ∷ x) begins, key-reads.finds str)
+      (ap (λ k. after_key o k (m ∷ x)) (key_value o.enabled_preserve_key_leading_whitespace v))
+  element-ended_key {x = x} {m = m} (KeyFront.indented {w} {s} {v = v} ind begins str) =
+      rw (append_assoc w s (m ∷ x), element-indented_pair (s ++ m ∷ x) ind begins, key-reads.finds str)
+      (ap (λ k. after_key o k (m ∷ x)) (indented_value o.enabled_preserve_key_leading_whitespace w v))
+
   element-key : {k x key : List ℕ} {m : ℕ} → KeyFront o b k (m ∷ x) key → is_separator m ≡ true
       → element o b (k ++ m ∷ x) ≡ after_separator o key x
-  element-key {x = x} {m = m} (KeyFront.unindented {s} {v = v} begins str) sep =
-      rw (element-unindented_pair (s ++ m ∷ x) begins, key-reads.finds str)
-      (ap (λ k. after_separator o k x) (key_value o.enabled_preserve_key_leading_whitespace v))
-  element-key {x = x} {m = m} (KeyFront.indented {w} {s} {v = v} ind begins str) sep =
-      rw (append_assoc w s (m ∷ x), element-indented_pair (s ++ m ∷ x) ind begins, key-reads.finds str)
-      (ap (λ k. after_separator o k x) (indented_value o.enabled_preserve_key_leading_whitespace w v))
+  element-key {m = m} front sep = element-ended_key front ∙ rw (separator_no_line_end m sep) refl
 
   element-gap : {s r : List ℕ} → Gap b s r → element o b (s ++ r) ≡ found [] r
   unfolding element
@@ -362,18 +435,15 @@ module _ (o : ParseOption) (b : List ℕ) where
       rw (
         append_assoc k (m ∷ s) r,
         element-key front sep,
-        after_key o key (s ++ r) some,
+        value_after o key (s ++ r) some,
         (value-reads o).finds given,
       )
   element-finds (Element.dropped_blanks ind) = element-blanks [] ind tt
-  element-finds (Element.dropped_key {w} {s} ind begins stops) =
-      let reads : string (backslash_of o) key_ends s ≡ stopped [] EndOfText =
-      rw (append-nil s) at (key-reads.stops stops) in
+  element-finds (Element.dropped_key {w} {s} runs ind begins stops) =
+      let here = subst (λ l. StrStops (backslash_of o) (key_ends l) s [] EndOfText) (sym runs) stops in
+      let reads : key_string o s ≡ stopped [] EndOfText = rw (append-nil s) at (key-reads.stops here) in
       rw (append-nil (w ++ s), element-indented_pair s ind begins, reads)
-
-  dropped_tail-stops : (r : List ℕ) (k : ParseKind) → k ≢ EndOfText → dropped_tail r k ≡ stopped r k
-  dropped_tail-stops r EndOfText n = absurd (n refl)
-  dropped_tail-stops r _ n = refl
+      (ap (λ l. dropped_tail l [] EndOfText) runs)
 
   pub element-stops : {s r : List ℕ} {k : ParseKind} → ElementStops o b s r k
       → element o b (s ++ r) ≡ stopped r k
@@ -386,14 +456,16 @@ module _ (o : ParseOption) (b : List ℕ) where
       rw (element-unindented_pair (s ++ r) begins, key-reads.stops stops)
   element-stops {r = r} {k} (ElementStops.in_indented_key {w} {s} ind begins stops n) =
       rw (append_assoc w s r, element-indented_pair (s ++ r) ind begins, key-reads.stops stops)
-      (dropped_tail-stops r k n)
+      (not_dropped o.line_without_separator r k n)
   element-stops {r = r} (ElementStops.no_key {k} {m = m} front sep) =
       rw (append_assoc k (m ∷ []) r) (element-key front sep)
+  element-stops {r = r} (ElementStops.no_separator {k} {c = c} front end) =
+      rw (append_assoc k (c ∷ []) r) (element-ended_key front ∙ rw end refl)
   element-stops {r = r} (ElementStops.in_value {k} {s} {key = key} {m = m} front some sep stops) =
       rw (
         append_assoc k (m ∷ s) r,
         element-key front sep,
-        after_key o key (s ++ r) some,
+        value_after o key (s ++ r) some,
         (value-reads o).stops stops,
       )
   element-stops (ElementStops.late_comment {m} mark late) =
@@ -412,14 +484,3 @@ blanks_front {t} {start} is =
     ap (λ x. run_of is_blank t ++ x) is ∙ (run-sound is_blank t).whole in
     let front = front_is (run_of is_blank t) start t whole in
     (front, ap (λ x. x ++ start) front ∙ whole)
-
--- other stops than the text's end stay
-pub not_dropped : (r : List ℕ) (kind : ParseKind) → (kind ≡ EndOfText → ⊥)
-    → dropped_tail r kind ≡ stopped r kind
-not_dropped r kinds.EndOfText other = absurd (other refl)
-not_dropped r kinds.BrokenEscape other = refl
-not_dropped r kinds.UnknownCharacter other = refl
-not_dropped r kinds.InlineComment other = refl
-not_dropped r kinds.MissingKey other = refl
-not_dropped r kinds.CrAlone other = refl
-not_dropped r kinds.HeaderEnd other = refl

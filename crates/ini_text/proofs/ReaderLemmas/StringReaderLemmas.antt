@@ -6,6 +6,7 @@ use Rattle.std.proofs.Math.Bool.{and-false}
 use Rattle.std.proofs.lemmas.Option.{cond_some}
 use Rattle.std.specs.Char.{is_digit}
 use Rattle.std.specs.List.{list_all}
+use Rattle.ini_text.specs.declared.option.LoneLine.TheVariants.{RunsOn, Refused}
 use Rattle.ini_text.specs.declared.error.ParseKind.{ParseKind}
 use Rattle.ini_text.specs.declared.error.ParseKind.TheVariants.{EndOfText}
 use Rattle.ini_text.specs.Grammar.CharacterKinds.{backslash, line_feed, plus, letter_x, BeginsWithNo}
@@ -159,7 +160,8 @@ plain_parts b to c h = let two = and_parts (not (c == backslash)) (not (is_endpo
 pub no_backslash_ends : (e : Endpoints) → is_endpoint (ends_of e) backslash ≡ false
 no_backslash_ends endpoints.Name = refl
 no_backslash_ends endpoints.BracketedName = refl
-no_backslash_ends endpoints.Key = refl
+no_backslash_ends (endpoints.Key RunsOn) = refl
+no_backslash_ends (endpoints.Key Refused) = refl
 no_backslash_ends endpoints.DoubleQuotes = refl
 no_backslash_ends endpoints.SingleQuotes = refl
 no_backslash_ends endpoints.Plain = refl

@@ -110,6 +110,15 @@ no_marks false true c = refl
 no_marks false false true = refl
 no_marks false false false = refl
 
+pub no_key_marks : (a b c d e : Bool)
+    → (not a && not (b || (c || (d || (e || false))))) ≡ not (a || b || c || d || e)
+no_key_marks true b c d e = refl
+no_key_marks false true c d e = refl
+no_key_marks false false true d e = refl
+no_key_marks false false false true e = refl
+no_key_marks false false false false true = refl
+no_key_marks false false false false false = refl
+
 -- one mark three times
 pub not_three : (a : Bool) → not (a || a || a) ≡ not a
 not_three true = refl

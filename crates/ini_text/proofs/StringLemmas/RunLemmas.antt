@@ -12,6 +12,7 @@ use Rattle.ini_text.specs.Inside.Scans.{is_raw, skipped}
 use Rattle.ini_text.specs.Inside.Endpoints.{ends_of}
 use Rattle.ini_text.specs.Grammar.CharacterKinds.{is_line_feed, BeginsWithNo}
 use Rattle.ini_text.proofs.ReaderLemmas.RunReaderLemmas.{run-finds}
+use Rattle.ini_text.specs.declared.option.LoneLine.TheVariants.{RunsOn, Refused}
 use Rattle.ini_text.specs.declared.parser.endpoints.Endpoints.{Endpoints}
 use Rattle.ini_text.specs.declared.parser.endpoints.Endpoints.TheVariants.{Name, BracketedName, Key, DoubleQuotes, SingleQuotes, Plain}
 
@@ -90,7 +91,8 @@ run_stops p bs back n wide u e k =
 pub raw_wide : (ends : Endpoints) (c : ℕ) → 128 ≤ c → is_raw (ends_of ends) c ≡ true
 raw_wide Name c l = grind (arith, nat_tests)
 raw_wide BracketedName c l = grind (arith, nat_tests)
-raw_wide Key c l = grind (arith, nat_tests)
+raw_wide (Key RunsOn) c l = grind (arith, nat_tests)
+raw_wide (Key Refused) c l = grind (arith, nat_tests)
 raw_wide DoubleQuotes c l = grind (arith, nat_tests)
 raw_wide SingleQuotes c l = grind (arith, nat_tests)
 raw_wide Plain c l = grind (arith, nat_tests)

@@ -193,43 +193,44 @@ not_empty {key} h e =
     let P : List ℕ → Type 0 = λ k. begins is_any k ≡ true in absurd (false≢true (subst P e h))
 
 -- a key before r that isn't indented
-abbrev pub is_plain_key : List ℕ → List ℕ → Bool
-is_plain_key k r = begins begins_key (k ++ r) && is_raw_string key_ends k r
+abbrev pub is_plain_key : ParseOption → List ℕ → List ℕ → Bool
+is_plain_key o k r = begins begins_key (k ++ r) && is_raw_string (key_ends o.line_without_separator) k r
 
-pub plain_key : {o : ParseOption} {b r : List ℕ} (k : List ℕ) → is_plain_key k r ≡ true
+pub plain_key : {o : ParseOption} {b r : List ℕ} (k : List ℕ) → is_plain_key o k r ≡ true
     → KeyFront o b k r (key_of o [] k)
-plain_key {r = r} k h =
-    let parts = and_parts (begins begins_key (k ++ r)) (is_raw_string key_ends k r) h in
+plain_key {o} {r = r} k h =
+    let raw = is_raw_string (key_ends o.line_without_separator) k r in
+    let parts = and_parts (begins begins_key (k ++ r)) raw h in
     KeyFront.unindented (begins_with begins_key (k ++ r) parts.0) (raw_string k parts.1)
 
 -- a key before r after the blanks w
-abbrev pub is_indented_key : List ℕ → List ℕ → List ℕ → List ℕ → Bool
-is_indented_key b w k r =
-    is_indentation b w && (begins begins_indented_key (k ++ r) && is_raw_string key_ends k r)
+abbrev pub is_indented_key : ParseOption → List ℕ → List ℕ → List ℕ → List ℕ → Bool
+is_indented_key o b w k r = is_indentation b w
+    && (begins begins_indented_key (k ++ r) && is_raw_string (key_ends o.line_without_separator) k r)
 
-pub key_after_blanks : {o : ParseOption} {b r : List ℕ} (w k : List ℕ) → is_indented_key b w k r ≡ true
+pub key_after_blanks : {o : ParseOption} {b r : List ℕ} (w k : List ℕ) → is_indented_key o b w k r ≡ true
     → KeyFront o b (w ++ k) r (key_of o w k)
-key_after_blanks {b = b} {r = r} w k h =
-    let blanks =
-    and_parts (is_indentation b w) (begins begins_indented_key (k ++ r) && is_raw_string key_ends k r) h in
-    let parts = and_parts (begins begins_indented_key (k ++ r)) (is_raw_string key_ends k r) blanks.1 in
+key_after_blanks {o} {b} {r} w k h =
+    let raw = is_raw_string (key_ends o.line_without_separator) k r in
+    let blanks = and_parts (is_indentation b w) (begins begins_indented_key (k ++ r) && raw) h in
+    let parts = and_parts (begins begins_indented_key (k ++ r)) raw blanks.1 in
     KeyFront.indented (indentation b w blanks.0) (begins_with begins_indented_key (k ++ r) parts.0)
     (raw_string k parts.1)
 
 -- a pair whose key has no backslashes, not indented and indented
-pub pair_of : {o : ParseOption} {b s r v : List ℕ} (k : List ℕ) → is_plain_key k (equals ∷ (s ++ r)) ≡ true
+pub pair_of : {o : ParseOption} {b s r v : List ℕ} (k : List ℕ) → is_plain_key o k (equals ∷ (s ++ r)) ≡ true
     → begins is_any (key_of o [] k) ≡ true
     → Value o s r v → Element o b (k ++ equals ∷ s) r (Pair (key_of o [] k) v ∷ [])
 pair_of k key some value = Element.pair (plain_key k key) (not_empty some) refl value
 
 pub pair_after_blanks : {o : ParseOption} {b s r v : List ℕ} (w k : List ℕ)
-    → is_indented_key b w k (equals ∷ (s ++ r)) ≡ true → begins is_any (key_of o w k) ≡ true
+    → is_indented_key o b w k (equals ∷ (s ++ r)) ≡ true → begins is_any (key_of o w k) ≡ true
     → Value o s r v → Element o b ((w ++ k) ++ equals ∷ s) r (Pair (key_of o w k) v ∷ [])
 pair_after_blanks w k key some value = Element.pair (key_after_blanks w k key) (not_empty some) refl value
 
 -- such a pair in whose value reading stops
 pub stops_in_value_of : {o : ParseOption} {b s r : List ℕ} {kind : ParseKind} (k : List ℕ)
-    → is_plain_key k (equals ∷ (s ++ r)) ≡ true → begins is_any (key_of o [] k) ≡ true
+    → is_plain_key o k (equals ∷ (s ++ r)) ≡ true → begins is_any (key_of o [] k) ≡ true
     → ValueStops o s r kind → ElementStops o b (k ++ equals ∷ s) r kind
 stops_in_value_of k key some value = ElementStops.in_value (plain_key k key) (not_empty some) refl value
 
@@ -237,12 +238,12 @@ stops_in_value_of k key some value = ElementStops.in_value (plain_key k key) (no
 abbrev pub is_plain_pair : ParseOption → List ℕ → List ℕ → List ℕ → Bool
 is_plain_pair o k s r = not o.enabled_indented_mutiline_value
     && (begins is_any (key_of o [] k)
-    && (is_plain_key k (equals ∷ (s ++ r)) && (is_lead [] (s ++ r) && is_plain_line s r)))
+    && (is_plain_key o k (equals ∷ (s ++ r)) && (is_lead [] (s ++ r) && is_plain_line s r)))
 
 pub plain_pair : {o : ParseOption} {b r : List ℕ} (k s : List ℕ) → is_plain_pair o k s r ≡ true
     → Element o b (k ++ equals ∷ s) r (Pair (key_of o [] k) (trimmed s) ∷ [])
 plain_pair {o} {r = r} k s h =
-    let key = is_plain_key k (equals ∷ (s ++ r)) in
+    let key = is_plain_key o k (equals ∷ (s ++ r)) in
     let value = is_lead [] (s ++ r) && is_plain_line s r in
     let one =
     and_parts (not o.enabled_indented_mutiline_value) (begins is_any (key_of o [] k) && (key && value)) h in

@@ -4,14 +4,13 @@ use Rattle.std.specs.Prelude.{codes}
 use Rattle.std.specs.List.{list_all}
 use Rattle.std.proofs.lemmas.Bool.{false≢true, true≢false, and_parts, and_from, and_right, not-true, or_cases, both_ways, false_from_ne_true}
 use Rattle.ini_text.specs.Options.Backslashes.{is_special}
-use Rattle.ini_text.specs.Options.ReadOptions.{backslash_of, default_parse_option}
+use Rattle.ini_text.specs.Options.ReadOptions.{backslash_of, default_parse_option, with_raw_backslashes}
 use Rattle.ini_text.specs.Laws.Plain.{HasReadEscapes, HasNoEscapes, IsBareKey, IsPlainKey, IsPlainName, IsPlainSeparator, IsPlainValue, IsReadBack, has_unread_letter}
 use Rattle.ini_text.specs.Escaping.Policies.{is_basic, is_escaped, is_extended}
 use Rattle.ini_text.specs.declared.option.ParseOption.{ParseOption}
 use Rattle.ini_text.specs.declared.write.policy.EscapePolicy.{EscapePolicy}
 use Rattle.ini_text.specs.declared.write.policy.EscapePolicy.TheVariants.{Nothing, Basics, Reserved, Everything}
 use Rattle.ini_text.proofs.PlainLemmas.EscapedTextLemmas.{basic-escaped}
-use Rattle.ini_text.proofs.Worked.WorkedBackslashes.{with_raw_backslashes}
 
 -- Where escapes are on and the policy isn't `Nothing`, a text that has no escapes and needs none is one
 -- whose escapes are read: so the two ways to be read back never mix in one document.

@@ -2,7 +2,7 @@
 -- grammar alone.
 use Rattle.std.proofs.Common.{true, [], ◌∷◌, refl}
 use Rattle.std.specs.Prelude.{codes}
-use Rattle.ini_text.specs.Options.ReadOptions.{default_parse_option, without_escapes}
+use Rattle.ini_text.specs.Options.ReadOptions.{default_parse_option, with_raw_backslashes}
 use Rattle.ini_text.specs.Grammar.EscapeSequences.{EscapeSequence}
 use Rattle.ini_text.specs.Grammar.Strings.{Row, Str, StrStops}
 use Rattle.ini_text.specs.Grammar.Lines.{Quoted, Line}
@@ -10,15 +10,11 @@ use Rattle.ini_text.specs.Grammar.Keys.{KeyFront}
 use Rattle.ini_text.specs.Grammar.Elements.{Element, ElementStops}
 use Rattle.ini_text.specs.Grammar.Elements.Given.{Pair}
 use Rattle.ini_text.specs.Grammar.Texts.{Derives}
-use Rattle.ini_text.specs.declared.option.ParseOption.{ParseOption}
 use Rattle.ini_text.specs.declared.error.ParseKind.TheVariants.{EndOfText}
 use Rattle.ini_text.proofs.Worked.DerivationLemmas.{derives, characters, raws, raws_before, raw_string, one_line, pair_of, plain_pair, unquoted_line, not_empty, white}
 use Rattle.ini_text.proofs.Worked.DerivationLemmas.RestGives.{whole, skip, give}
 use Rattle.ini_text.proofs.Worked.DerivationLemmas.RestStops.{stop, past}
 use Rattle.ini_text.proofs.Worked.WorkedRefusals.{StopsAt, stops_at}
-
-abbrev pub with_raw_backslashes : ParseOption
-with_raw_backslashes = record without_escapes { enabled_raw_backslash = true }
 
 -- A backslash at a line's end stays, and the value ends there.
 pub path_with_a_last_backslash : Derives with_raw_backslashes (codes "p=C:\\x\\\nk=v\n")

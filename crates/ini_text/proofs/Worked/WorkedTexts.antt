@@ -106,7 +106,7 @@ key_with_kept_indentation = derives (skip (Element.comment (codes " c") refl ref
 -- An indented key without a separator is dropped.
 pub dropped_key : Derives default_parse_option (codes "  k") []
 dropped_key = derives (skip
-    (Element.dropped_key {w = codes "  "} (indentation _ _ refl) refl
+    (Element.dropped_key {w = codes "  "} refl (indentation _ _ refl) refl
     (StrStops.at_end (raws (codes "k") refl) refl)) whole)
 
 -- In a multiline value CR LF is one line end.

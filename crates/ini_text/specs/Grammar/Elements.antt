@@ -11,10 +11,11 @@ use Rattle.ini_text.specs.Grammar.Strings.{Str, StrStops, name_ends, bracketed_n
 use Rattle.ini_text.specs.Grammar.Values.{Value, ValueStops}
 use Rattle.ini_text.specs.Grammar.Keys.{Indentation, begins_key, begins_indented_key, KeyFront}
 use Rattle.ini_text.specs.Options.ReadOptions.{backslash_of}
+use Rattle.ini_text.specs.declared.option.LoneLine.TheVariants.{RunsOn}
 use Rattle.ini_text.specs.declared.option.ParseOption.{ParseOption}
 use Rattle.ini_text.specs.declared.error.ParseKind.{ParseKind}
 use Rattle.ini_text.specs.declared.error.ParseKind.TheVariants.{EndOfText, HeaderEnd, InlineComment}
-use Rattle.ini_text.specs.declared.error.ParseKind.TheVariants.{MissingKey}
+use Rattle.ini_text.specs.declared.error.ParseKind.TheVariants.{MissingKey, NoSeparator}
 
 -- an item that a text gives: the name of a section, or a key with its value
 pub data Given : Type 0 where
@@ -57,10 +58,10 @@ pub data Element (o : ParseOption) (b : List ℕ) : List ℕ → List ℕ → Li
   pair : {k s r key v : List ℕ} {m : ℕ} → KeyFront o b k (m ∷ (s ++ r)) key → key ≢ []
       → is_separator m ≡ true → Value o s r v
       → Element o b (k ++ m ∷ s) r (Pair key v ∷ [])
-  -- blanks at the text's end, and an indented key that the text's end cuts short
+  -- blanks at the text's end, and, where keys run on, an indented one that the text's end cuts short
   dropped_blanks : {w : List ℕ} → Indentation b w → Element o b w [] []
-  dropped_key : {w s : List ℕ} → Indentation b w → BeginsWith begins_indented_key s
-      → StrStops (backslash_of o) key_ends s [] EndOfText
+  dropped_key : {w s : List ℕ} → o.line_without_separator ≡ RunsOn → Indentation b w
+      → BeginsWith begins_indented_key s → StrStops (backslash_of o) (key_ends RunsOn) s [] EndOfText
       → Element o b (w ++ s) [] []
 
 -- an element's source at whose end reading stops, before r
@@ -75,13 +76,17 @@ pub data ElementStops (o : ParseOption) (b : List ℕ) : List ℕ → List ℕ �
       → ((name : List ℕ) → ¬ IsBracketed v name)
       → ElementStops o b (open_bracket ∷ (s ++ c ∷ [])) r HeaderEnd
   in_key : {s r : List ℕ} {kind : ParseKind} → BeginsWith begins_key (s ++ r)
-      → StrStops (backslash_of o) key_ends s r kind → ElementStops o b s r kind
-  -- the text's end is no fault in an indented key
+      → StrStops (backslash_of o) (key_ends o.line_without_separator) s r kind → ElementStops o b s r kind
+  -- where keys run on, the text's end is no fault in an indented one
   in_indented_key : {w s r : List ℕ} {kind : ParseKind} → Indentation b w
-      → BeginsWith begins_indented_key (s ++ r) → StrStops (backslash_of o) key_ends s r kind
-      → kind ≢ EndOfText → ElementStops o b (w ++ s) r kind
+      → BeginsWith begins_indented_key (s ++ r)
+      → StrStops (backslash_of o) (key_ends o.line_without_separator) s r kind
+      → (o.line_without_separator ≡ RunsOn → kind ≢ EndOfText) → ElementStops o b (w ++ s) r kind
   no_key : {k r : List ℕ} {m : ℕ} → KeyFront o b k (m ∷ r) [] → is_separator m ≡ true
       → ElementStops o b (k ++ m ∷ []) r MissingKey
+  -- a line ends with its key, which is reported at the line end's first character
+  no_separator : {k r key : List ℕ} {c : ℕ} → KeyFront o b k (c ∷ r) key → is_line_end c ≡ true
+      → ElementStops o b (k ++ c ∷ []) r NoSeparator
   in_value : {k s r key : List ℕ} {m : ℕ} {kind : ParseKind} → KeyFront o b k (m ∷ (s ++ r)) key → key ≢ []
       → is_separator m ≡ true → ValueStops o s r kind
       → ElementStops o b (k ++ m ∷ s) r kind

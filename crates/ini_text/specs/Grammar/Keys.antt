@@ -24,12 +24,13 @@ begins_key c = not (is_whitespace c || is_comment_mark c || c == open_bracket)
 abbrev pub begins_indented_key : ℕ → Bool
 begins_indented_key c = not (is_blank c || is_line_end c || c == open_bracket)
 
--- The source of a key before r, which begins with a separator, and the key. With kept indentation white
--- space goes at the end alone.
+-- The source of a key before r, which begins with a separator, or with a line end where a key ends there;
+-- and the key. With kept indentation white space goes at the end alone.
 pub data KeyFront (o : ParseOption) (b : List ℕ) : List ℕ → List ℕ → List ℕ → Type 0 where
-  unindented : {s r v : List ℕ} → BeginsWith begins_key (s ++ r) → Str (backslash_of o) key_ends s r v
+  unindented : {s r v : List ℕ} → BeginsWith begins_key (s ++ r)
+      → Str (backslash_of o) (key_ends o.line_without_separator) s r v
       → KeyFront o b s r (if o.enabled_preserve_key_leading_whitespace then end_trimmed v else trimmed v)
   indented : {w s r v : List ℕ} → Indentation b w → BeginsWith begins_indented_key (s ++ r)
-      → Str (backslash_of o) key_ends s r v
+      → Str (backslash_of o) (key_ends o.line_without_separator) s r v
       → KeyFront o b (w ++ s) r (if o.enabled_preserve_key_leading_whitespace then end_trimmed (w ++ v)
       else trimmed v)

@@ -1,5 +1,5 @@
 -- Places: the stretches of which a pair's source is made, in order, and what each holds.
-use Rattle.std.specs.Prelude.{◌≡◌, ◌≢◌, ℕ, Bool, true, false, not, ◌||◌, ◌==◌, List, [], ◌∷◌, ◌++◌}
+use Rattle.std.specs.Prelude.{◌≡◌, ◌≢◌, ℕ, Bool, true, false, not, ◌||◌, List, [], ◌∷◌, ◌++◌}
 use Rattle.std.specs.List.{list_all}
 use Rattle.ini_text.specs.Grammar.CharacterKinds.{line_feed, carriage_return, backslash}
 use Rattle.ini_text.specs.Grammar.CharacterKinds.{is_line_feed, is_blank, is_inline_white, is_separator}
@@ -10,6 +10,8 @@ use Rattle.ini_text.specs.Grammar.Strings.{Closes, plain_ends}
 use Rattle.ini_text.specs.Grammar.Lines.{Line}
 use Rattle.ini_text.specs.Grammar.Values.{LineEnd, MoreLines, Value}
 use Rattle.ini_text.specs.Grammar.Keys.{KeyFront}
+use Rattle.ini_text.specs.Options.Backslashes.{Backslash, is_special, begins_escape}
+use Rattle.ini_text.specs.Options.ReadOptions.{backslash_of}
 use Rattle.ini_text.specs.declared.option.ParseOption.{ParseOption}
 
 -- A pair's stretches: its key, with the blanks that indent it; the separator; the white space before its
@@ -53,17 +55,17 @@ pub data TrailingLines (o : ParseOption) : List ℕ → List ℕ → Type 0 wher
   lines : {e t r u : List ℕ} → o.enabled_indented_mutiline_value ≡ true → LineEnd e (t ++ r)
       → MoreLines o t r u → list_all is_line_feed u ≡ true → TrailingLines o (e ++ t) r
 
--- the last character is neither inline white nor a backslash
-abbrev pub ends_bare : List ℕ → Bool
-ends_bare cs = not (is_inline_white (last_or line_feed cs) || last_or line_feed cs == backslash)
+-- the last character is neither inline white nor a backslash that takes the next one along
+abbrev pub ends_bare : Backslash → List ℕ → Bool
+ends_bare b cs = not (is_inline_white (last_or line_feed cs) || begins_escape b (last_or line_feed cs))
 
 -- Of a value's own lines the white space at their end stands after the value, unless a backslash stands
--- before it: then all is the value's own.
-pub data SpaceAfter : List ℕ → List ℕ → Type 0 where
-  bare : {raw_value space_after : List ℕ} → ends_bare raw_value ≡ true
-      → list_all is_inline_white space_after ≡ true → SpaceAfter raw_value space_after
-  escaped : (front white : List ℕ) → list_all is_inline_white white ≡ true
-      → SpaceAfter (front ++ backslash ∷ white) []
+-- before it that takes it along: then all is the value's own.
+pub data SpaceAfter (b : Backslash) : List ℕ → List ℕ → Type 0 where
+  bare : {raw_value space_after : List ℕ} → ends_bare b raw_value ≡ true
+      → list_all is_inline_white space_after ≡ true → SpaceAfter b raw_value space_after
+  escaped : (front white : List ℕ) → is_special b ≡ true → list_all is_inline_white white ≡ true
+      → SpaceAfter b (front ++ backslash ∷ white) []
 
 -- after the front b and before r the stretches are those of a pair of this key and value
 pub record ArePlaced (o : ParseOption) (b : List ℕ) (p : Stretches) (r key value : List ℕ) : Type 0 where
@@ -73,5 +75,5 @@ pub record ArePlaced (o : ParseOption) (b : List ℕ) (p : Stretches) (r key val
   pub gives : Value o (value_source p) r value
   pub space_before : Lead p.space_before (p.raw_value ++ (p.space_after ++ (p.trailing_lines ++ r)))
   pub raw_value : OwnLines o (p.raw_value ++ p.space_after) (p.trailing_lines ++ r)
-  pub space_after : SpaceAfter p.raw_value p.space_after
+  pub space_after : SpaceAfter (backslash_of o) p.raw_value p.space_after
   pub trailing_lines : TrailingLines o p.trailing_lines r

@@ -5,6 +5,8 @@ use Rattle.ini_text.specs.Grammar.CharacterKinds.{backslash, line_feed, carriage
 use Rattle.ini_text.specs.Grammar.CharacterKinds.{equals, colon}
 use Rattle.ini_text.specs.Options.Backslashes.{Backslash, is_special, reads_escapes, begins_escape}
 use Rattle.ini_text.specs.Grammar.EscapeSequences.{EscapeSequence, EscapeStops}
+use Rattle.ini_text.specs.declared.option.LoneLine.{LoneLine}
+use Rattle.ini_text.specs.declared.option.LoneLine.TheVariants.{RunsOn, Refused}
 use Rattle.ini_text.specs.declared.error.ParseKind.{ParseKind}
 use Rattle.ini_text.specs.declared.error.ParseKind.TheVariants.{EndOfText}
 
@@ -21,9 +23,10 @@ name_ends = record { characters = close_bracket ∷ []; text = false }
 abbrev pub bracketed_name_ends : Ends
 bracketed_name_ends = record { characters = line_feed ∷ carriage_return ∷ []; text = false }
 
--- a key ends at a separator
-abbrev pub key_ends : Ends
-key_ends = record { characters = equals ∷ colon ∷ []; text = false }
+-- a key ends at a separator, and with its line where one without separator is refused
+abbrev pub key_ends : LoneLine → Ends
+key_ends RunsOn = record { characters = equals ∷ colon ∷ []; text = false }
+key_ends Refused = record { characters = equals ∷ colon ∷ line_feed ∷ carriage_return ∷ []; text = false }
 
 -- a quoted part ends at its own mark
 abbrev pub quote_ends : ℕ → Ends

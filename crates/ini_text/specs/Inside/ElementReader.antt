@@ -17,8 +17,10 @@ use Rattle.ini_text.specs.Parsing.Items.{borrowed_item_of}
 use Rattle.ini_text.specs.Options.ReadOptions.{backslash_of}
 use Rattle.ini_text.specs.declared.error.ParseKind.{ParseKind}
 use Rattle.ini_text.specs.declared.error.ParseKind.TheVariants.{EndOfText, HeaderEnd, InlineComment}
-use Rattle.ini_text.specs.declared.error.ParseKind.TheVariants.{MissingKey}
+use Rattle.ini_text.specs.declared.error.ParseKind.TheVariants.{MissingKey, NoSeparator}
 use Rattle.ini_text.specs.declared.item.BorrowedItem.{BorrowedItem}
+use Rattle.ini_text.specs.declared.option.LoneLine.{LoneLine}
+use Rattle.ini_text.specs.declared.option.LoneLine.TheVariants.{RunsOn}
 use Rattle.ini_text.specs.declared.option.ParseOption.{ParseOption}
 
 -- one item or none
@@ -68,21 +70,30 @@ after_separator o (c ∷ key) r = pair_of_value (c ∷ key) (value o r)
 abbrev pub trimmed_key : ParseOption → Answer ℕ → Answer ℕ
 trimmed_key o a = altered_answer (trimmed_at (not o.enabled_preserve_key_leading_whitespace)) a
 
+-- after a key, from the character on that ends it
+abbrev pub after_key : ParseOption → List ℕ → List ℕ → Answer Given
+after_key o key [] = found [] []
+after_key o key (c ∷ r) = if is_line_end c then stopped r NoSeparator else after_separator o key r
+
 abbrev pub pair_of_key : ParseOption → Answer ℕ → Answer Given
-pair_of_key o (found key r) = after_separator o key (drop 1 r)
+pair_of_key o (found key r) = after_key o key r
 pair_of_key o (stopped r k) = stopped r k
 
-abbrev pub unindented_pair : ParseOption → List ℕ → Answer Given
-unindented_pair o t = pair_of_key o (trimmed_key o (string (backslash_of o) key_ends t))
+-- a key up to what ends it
+abbrev pub key_string : ParseOption → List ℕ → Answer ℕ
+key_string o t = string (backslash_of o) (key_ends o.line_without_separator) t
 
--- the text's end is no fault in an indented key
-abbrev pub dropped_tail : List ℕ → ParseKind → Answer Given
-dropped_tail r EndOfText = found [] r
-dropped_tail r k = stopped r k
+abbrev pub unindented_pair : ParseOption → List ℕ → Answer Given
+unindented_pair o t = pair_of_key o (trimmed_key o (key_string o t))
+
+-- where keys run on, the text's end is no fault in an indented one
+abbrev pub dropped_tail : LoneLine → List ℕ → ParseKind → Answer Given
+dropped_tail RunsOn r EndOfText = found [] r
+dropped_tail line r k = stopped r k
 
 abbrev pub indented_pair_of_key : ParseOption → Answer ℕ → Answer Given
-indented_pair_of_key o (found key r) = after_separator o key (drop 1 r)
-indented_pair_of_key o (stopped r k) = dropped_tail r k
+indented_pair_of_key o (found key r) = after_key o key r
+indented_pair_of_key o (stopped r k) = dropped_tail o.line_without_separator r k
 
 -- the blanks with which a key begins, where they are kept
 abbrev pub kept_blanks : ParseOption → List ℕ → List ℕ
@@ -90,7 +101,7 @@ kept_blanks o w = if o.enabled_preserve_key_leading_whitespace then w else []
 
 abbrev pub indented_pair : ParseOption → List ℕ → List ℕ → Answer Given
 indented_pair o w t =
-    indented_pair_of_key o (trimmed_key o (prepend (kept_blanks o w) (string (backslash_of o) key_ends t)))
+    indented_pair_of_key o (trimmed_key o (prepend (kept_blanks o w) (key_string o t)))
 
 -- after the blanks w at a line's start
 abbrev pub after_blanks : ParseOption → List ℕ → List ℕ → Answer Given

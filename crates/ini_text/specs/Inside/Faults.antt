@@ -14,3 +14,4 @@ HasMessage-prop kinds.InlineComment message = Coded-set (coded_list coded_ℕ) m
 HasMessage-prop kinds.MissingKey message = Coded-set (coded_list coded_ℕ) message _
 HasMessage-prop kinds.CrAlone message = Coded-set (coded_list coded_ℕ) message _
 HasMessage-prop kinds.HeaderEnd message = Unit-prop
+HasMessage-prop kinds.NoSeparator message = Coded-set (coded_list coded_ℕ) message _

@@ -6,6 +6,10 @@ use Rattle.std.specs.Simd.Lanes.{mask_l}
 abbrev pub is_one_of : ℕ → ℕ → ℕ → ℕ → Bool
 is_one_of a b c byte = byte == a || byte == b || byte == c
 
+-- and one of five
+abbrev pub is_one_of_five : ℕ → ℕ → ℕ → ℕ → ℕ → ℕ → Bool
+is_one_of_five a b c d e byte = is_one_of a b c byte || byte == d || byte == e
+
 -- the bits tell which of the first bytes, at most sixteen, are marked; so many more bytes follow these
 pub record Tells (is_marked : ℕ → Bool) (more bits : ℕ) (bytes : List ℕ) : Type 0 where
   pub lanes : ℕ

@@ -8,16 +8,15 @@ use Rattle.ini_text.specs.Grammar.Elements.{Pair, Element}
 use Rattle.ini_text.specs.Grammar.Places.{LastLine, OwnLines, SpaceAfter, TrailingLines, ArePlaced, pair_source}
 use Rattle.ini_text.specs.Grammar.Values.{LineEnd, MoreLines}
 use Rattle.ini_text.specs.Grammar.WhiteSpace.{without_outer_line_feeds}
-use Rattle.ini_text.specs.Grammar.Strings.{key_ends}
 use Rattle.ini_text.specs.Inside.ItemSearch.{StopIsWithin}
 use Rattle.ini_text.specs.Inside.Reading.{found, prepend, altered_answer}
 use Rattle.ini_text.specs.Inside.Scans.{skipped}
-use Rattle.ini_text.specs.Inside.StringReader.{string}
+use Rattle.ini_text.specs.Inside.ElementReader.{key_string}
 use Rattle.ini_text.specs.Inside.ValueReader.{more_lines, value}
 use Rattle.ini_text.specs.Parsing.Fronts.{front_of, IsRest}
 use Rattle.ini_text.specs.Parsing.Parser.{TellsRefusal, refusal_of}
 use Rattle.ini_text.specs.Parsing.Places.{StandsBetween, RefusesElement, stretches_of}
-use Rattle.ini_text.specs.Options.ReadOptions.{backslash_of}
+use Rattle.ini_text.specs.Options.Backslashes.{Backslash}
 use Rattle.ini_text.specs.declared.error.Error.{Error}
 use Rattle.ini_text.specs.Parsing.Items.{cow_text}
 use Rattle.ini_text.specs.declared.option.ParseOption.{ParseOption}
@@ -69,7 +68,7 @@ HasLines o text rests r =
 -- the value's own lines stand between `start` and `tail`
 pub record ReadsPair (o : ParseOption) (text after_key start tail gives rest : List ℕ) : Type 0 where
   pub key : List ℕ
-  pub key_is : string (backslash_of o) key_ends (skipped is_blank text) ≡ found key after_key
+  pub key_is : key_string o (skipped is_blank text) ≡ found key after_key
   pub value_is : HasTail o (drop 1 after_key) start tail gives rest
 
 -- where the value stands that was read
@@ -95,9 +94,9 @@ IsHeader (Some (items.Pair key value)) = ⊥
 IsHeader _ = ⊤
 
 -- of lines this part stands before the white space at their end
-abbrev pub IsBeforeSpace : List ℕ → List ℕ → Type 0
-IsBeforeSpace lines raw_value =
-    (space_after : List ℕ) × (lines ≡ raw_value ++ space_after) × SpaceAfter raw_value space_after
+abbrev pub IsBeforeSpace : Backslash → List ℕ → List ℕ → Type 0
+IsBeforeSpace b lines raw_value =
+    (space_after : List ℕ) × (lines ≡ raw_value ++ space_after) × SpaceAfter b raw_value space_after
 
 -- a text goes on with a pair up to the rest r
 abbrev pub BeginsPair : ParseOption → List ℕ → List ℕ → Type 0

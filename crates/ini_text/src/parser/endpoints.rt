@@ -1,13 +1,18 @@
 //! Where strings end, and the runs up to there. This file knows endpoints, and no production.
-ghost use Rattle.std.specs.Prelude.{◌≡◌, ◌++◌, ◌≤◌, ℕ, true, not, chars, length};
+ghost use Rattle.std.specs.Prelude.{◌≡◌, ◌++◌, ◌≤◌, ℕ, true, not, chars, length, MatchOption};
 ghost use Rattle.std.specs.List.{list_all, prefix_len};
 ghost use Rattle.ini_text.specs.Grammar.CharacterKinds.{BeginsWithNo};
 ghost use Rattle.ini_text.specs.Grammar.Strings.{is_endpoint};
-ghost use Rattle.ini_text.specs.Inside.Endpoints.{ends_of};
+ghost use Rattle.ini_text.specs.Inside.Endpoints.{ends_of, is_key_mark};
 ghost use Rattle.ini_text.specs.Inside.Lanes.{is_one_of};
 ghost use Rattle.ini_text.specs.Inside.Scans.{is_raw};
 
-use crate::lanes::{Three, run_before};
+use crate::lanes::{Five, Three, run_before};
+use crate::option::LoneLine;
+use crate::text::is_line_end;
+
+// The bytes at which a run of a key ends that ends with its line.
+const KEY_MARKS: Five = Five(Three(b'\\', b'=', b':'), b'\n', b'\r');
 
 /// Where a string ends.
 #[derive(Clone, Copy)]
@@ -15,7 +20,8 @@ pub(crate) enum Endpoints {
     Name,
     /// A name in which brackets may stand.
     BracketedName,
-    Key,
+    /// A key, and what becomes of a line in which no separator follows it.
+    Key(LoneLine),
     DoubleQuotes,
     SingleQuotes,
     Plain,
@@ -28,7 +34,8 @@ impl Endpoints {
         match self {
             Endpoints::Name => c == ']',
             Endpoints::BracketedName => c == '\n' || c == '\r',
-            Endpoints::Key => c == '=' || c == ':',
+            Endpoints::Key(LoneLine::RunsOn) => c == '=' || c == ':',
+            Endpoints::Key(LoneLine::Refused) => c == '=' || c == ':' || is_line_end(c),
             Endpoints::DoubleQuotes => c == '"',
             Endpoints::SingleQuotes => c == '\'',
             Endpoints::Plain => c == '\n' || c == '\r',
@@ -36,17 +43,20 @@ impl Endpoints {
     }
 
     /// The bytes at which a run of characters ends: a backslash, and the characters at which the string ends.
-    #[tactic(auto, using(crate::proofs::StringLemmas::LaneLemmas::no_marks))]
-    pub(crate) fn marks(self) -> Three
-        ensures { (c : ℕ) → is_raw (ends_of self) c ≡ not (is_one_of result.0 result.1 result.2 c) }
+    /// `None` where they are those of `KEY_MARKS`.
+    #[tactic(auto, using(crate::proofs::StringLemmas::LaneLemmas::no_marks, crate::proofs::StringLemmas::LaneLemmas::no_key_marks))]
+    pub(crate) fn marks(self) -> Option<Three>
+        ensures { MatchOption result ((c : ℕ) → is_raw (ends_of self) c ≡ not (is_key_mark c))
+            (λ three. (c : ℕ) → is_raw (ends_of self) c ≡ not (is_one_of three.0 three.1 three.2 c)) }
     {
         match self {
-            Endpoints::Name => Three(b'\\', b']', b']'),
-            Endpoints::BracketedName => Three(b'\\', b'\n', b'\r'),
-            Endpoints::Key => Three(b'\\', b'=', b':'),
-            Endpoints::DoubleQuotes => Three(b'\\', b'"', b'"'),
-            Endpoints::SingleQuotes => Three(b'\\', b'\'', b'\''),
-            Endpoints::Plain => Three(b'\\', b'\n', b'\r'),
+            Endpoints::Name => Some(Three(b'\\', b']', b']')),
+            Endpoints::BracketedName => Some(Three(b'\\', b'\n', b'\r')),
+            Endpoints::Key(LoneLine::RunsOn) => Some(Three(b'\\', b'=', b':')),
+            Endpoints::Key(LoneLine::Refused) => None,
+            Endpoints::DoubleQuotes => Some(Three(b'\\', b'"', b'"')),
+            Endpoints::SingleQuotes => Some(Three(b'\\', b'\'', b'\'')),
+            Endpoints::Plain => Some(Three(b'\\', b'\n', b'\r')),
         }
     }
 
@@ -61,7 +71,7 @@ impl Endpoints {
         match self {
             Endpoints::Name => "expecting \"[Some(']')]\" but found EOF.",
             Endpoints::BracketedName => "expecting \"[Some('\\r'), Some('\\n')]\" but found EOF.",
-            Endpoints::Key => "expecting \"[Some('='), Some(':')]\" but found EOF.",
+            Endpoints::Key(_) => "expecting \"[Some('='), Some(':')]\" but found EOF.",
             Endpoints::DoubleQuotes => "expecting \"[Some('\"')]\" but found EOF.",
             Endpoints::SingleQuotes => "expecting \"[Some('\\'')]\" but found EOF.",
             Endpoints::Plain => "expecting \"[Some('\\n'), Some('\\r'), None]\" but found EOF.",
@@ -73,7 +83,10 @@ fn run_len(bytes: &[u8], ends: Endpoints) -> usize
     ensures len { result ≡ prefix_len (is_raw (ends_of ends)) bytes.now }
     ensures within { result ≤ length bytes.now }
 {
-    run_before(bytes, &ends.marks())
+    match ends.marks() {
+        Some(three) => run_before(bytes, &three),
+        None => run_before(bytes, &KEY_MARKS),
+    }
 }
 
 /// The characters at the front of a text that are neither a backslash nor an endpoint, and what follows

@@ -2,28 +2,26 @@
 //! blanks. This file knows strings and values.
 ghost use Rattle.std.specs.Prelude.{◌≡◌, ℕ, true, chars, drop, IfOk};
 ghost use Rattle.ini_text.specs.Grammar.CharacterKinds.{is_blank};
-ghost use Rattle.ini_text.specs.Inside.ElementReader.{after_blanks, after_separator, given};
-ghost use Rattle.ini_text.specs.Inside.ElementReader.{indented_pair_of_key, kept_blanks, trimmed_key};
+ghost use Rattle.ini_text.specs.Inside.ElementReader.{after_blanks, after_key, given};
+ghost use Rattle.ini_text.specs.Inside.ElementReader.{indented_pair_of_key, kept_blanks, key_string};
+ghost use Rattle.ini_text.specs.Inside.ElementReader.{trimmed_key};
 ghost use Rattle.ini_text.specs.Inside.ElementReader.{unindented_pair};
-ghost use Rattle.ini_text.specs.Grammar.Strings.{key_ends};
 ghost use Rattle.ini_text.specs.Inside.PlaceReader.{HasRests, HasValueRests, IsHeader};
 ghost use Rattle.ini_text.specs.Inside.Reading.{Answer, Gives, StopsBy, prepend};
 ghost use Rattle.ini_text.specs.Inside.Scans.{run_of, skipped};
-ghost use Rattle.ini_text.specs.Options.ReadOptions.{backslash_of};
-ghost use Rattle.ini_text.specs.Inside.StringReader.{string};
 ghost use Rattle.ini_text.specs.Parsing.Items.{cow_text};
 ghost use Rattle.ini_text.specs.declared.option.ParseOption.{ParseOption};
 
 use crate::error::ParseKind;
 use crate::item::BorrowedItem;
-use crate::option::ParseOption;
+use crate::option::{LoneLine, ParseOption};
 use crate::parser::endpoints::Endpoints;
 use crate::parser::fault::Stop;
 use crate::parser::rests::Rests;
 use crate::parser::string::read_string;
 use crate::parser::trimmed::read_trimmed;
 use crate::parser::value::read_value;
-use crate::text::{Class, after_first, front_before, is_line_end, skip, split_first, trim};
+use crate::text::{Class, front_before, is_line_end, skip, split_first, trim};
 use std::alloc::Global;
 use std::borrow::CowStr;
 
@@ -44,7 +42,8 @@ pub(crate) fn read_unindented<'a>(
         → IfOk result (λ p. HasRests read (chars text.now) rests.new p.0 (chars p.1.now)) }
 {
     let both = !read.enabled_preserve_key_leading_whitespace;
-    let (key, rest) = read_trimmed(alloc, scratch, text, read, Endpoints::Key, both)?;
+    let ends = Endpoints::Key(read.line_without_separator);
+    let (key, rest) = read_trimmed(alloc, scratch, text, read, ends, both)?;
     read_pair(alloc, scratch, rests, places, key, rest, read)
 }
 
@@ -75,7 +74,7 @@ pub(crate) fn read_indented<'a>(
     }
     match read_indented_key(alloc, scratch, front_before(text, start), start, read) {
         Ok((key, rest)) => read_pair(alloc, scratch, rests, places, key, rest, read),
-        Err(stop) => drop_tail(stop),
+        Err(stop) => drop_tail(stop, read.line_without_separator),
     }
 }
 
@@ -89,23 +88,31 @@ fn read_indented_key<'a>(
     read: ParseOption,
 ) -> Result<(CowStr<'a>, &'a str), Stop<'a>>
     ensures { Gives cow_text result (trimmed_key read (prepend (kept_blanks read (chars blanks.now))
-        (string (backslash_of read) key_ends (chars text.now)))) }
+        (key_string read (chars text.now)))) }
 {
+    let ends = Endpoints::Key(read.line_without_separator);
     if !read.enabled_preserve_key_leading_whitespace {
-        return read_trimmed(alloc, scratch, text, read, Endpoints::Key, true);
+        return read_trimmed(alloc, scratch, text, read, ends, true);
     }
     let mut key = String::from_str(alloc, blanks)?;
-    let rest = read_string(&mut key, text, read, Endpoints::Key)?;
+    let rest = read_string(&mut key, text, read, ends)?;
     let key = trim(alloc, key, false)?;
     Ok((CowStr::Owned(key), rest))
 }
 
-/// What is left of a text that ends within an indented key gives nothing; other stops stay.
-fn drop_tail<'a>(stop: Stop<'a>) -> Result<(Option<BorrowedItem<'a>>, &'a str), Stop<'a>>
-    ensures gives { (o : ParseOption) (a : Answer ℕ) → StopsBy a stop.entry
-        → Gives given result (indented_pair_of_key o a) }
+/// Where keys run on, what is left of a text that ends within an indented one gives nothing; other stops
+/// stay.
+fn drop_tail<'a>(
+    stop: Stop<'a>,
+    line: LoneLine,
+) -> Result<(Option<BorrowedItem<'a>>, &'a str), Stop<'a>>
+    ensures gives { (o : ParseOption) (a : Answer ℕ) → o.line_without_separator ≡ line
+        → StopsBy a stop.entry → Gives given result (indented_pair_of_key o a) }
     ensures nothing { IfOk result (λ p. IsHeader p.0) }
 {
+    if let LoneLine::Refused = line {
+        return Err(stop);
+    }
     match stop {
         Stop::Memory => Err(stop),
         Stop::Fault(fault) => match fault.kind {
@@ -116,7 +123,7 @@ fn drop_tail<'a>(stop: Stop<'a>) -> Result<(Option<BorrowedItem<'a>>, &'a str), 
 }
 
 // separator value, after a key
-/// What follows a key, from its separator on.
+/// What follows a key, from what ends it on: a separator, or a line end, which is refused.
 #[inline(always)]
 fn read_pair<'a>(
     alloc: Global,
@@ -127,12 +134,20 @@ fn read_pair<'a>(
     rest: &'a str,
     read: ParseOption,
 ) -> Result<(Option<BorrowedItem<'a>>, &'a str), Stop<'a>>
-    ensures gives { Gives given result
-        (after_separator read (cow_text key.entry) (drop 1 (chars rest.now))) }
+    ensures gives { Gives given result (after_key read (cow_text key.entry) (chars rest.now)) }
     ensures rests { places ≡ true
         → IfOk result (λ p. HasValueRests read (chars rest.now) rests.new p.0 (chars p.1.now)) }
 {
-    let after = after_first(rest);
+    let Some((c, after)) = split_first(rest) else {
+        return Ok((None, rest));
+    };
+    if is_line_end(c) {
+        return Err(Stop::new(
+            ParseKind::NoSeparator,
+            "no separator follows the key in its line",
+            after,
+        ));
+    }
     if key.as_str().is_empty() {
         return Err(Stop::new(ParseKind::MissingKey, "missing key", after));
     }

@@ -4,6 +4,7 @@ ghost use Rattle.std.specs.Prelude.{◌≡◌, ◌++◌, [], chars, None, Ok, If
 ghost use Rattle.std.specs.Prelude.{OnErr};
 ghost use Rattle.ini_text.specs.Grammar.Places.{SpaceAfter};
 ghost use Rattle.ini_text.specs.Grammar.Positions.{line_of, column_of};
+ghost use Rattle.ini_text.specs.Options.ReadOptions.{backslash_of};
 ghost use Rattle.ini_text.specs.Inside.PlaceReader.{BeginsPair, FindsElement, HasRestsOf};
 ghost use Rattle.ini_text.specs.Inside.PlaceReader.{IsBeforeSpace, PlacesPair};
 ghost use Rattle.ini_text.specs.Parsing.Fronts.{IsRest};
@@ -65,7 +66,7 @@ pub struct PairPlaces<'a> {
     /// The value as it is written, with its quotes and escapes: what an edit of the value replaces.
     pub raw_value: &'a str,
     /// The white space after the value, up to its line's end. It is the value's own where a backslash
-    /// stands before it.
+    /// stands before it that takes it along.
     pub space_after: &'a str,
     /// Where values are multiline, the line end after the value, and the lines after it that give nothing;
     /// else nothing: the line end is no part of the pair.
@@ -161,14 +162,13 @@ fn place_pair<'a>(
     ensures { PlacesPair read (chars text.now) (chars end.now) result }
 {
     let _ = value;
-    let _ = read;
     let after_key = rests.after_key;
     let start = rests.start;
     let tail = rests.tail;
     let Some((separator, after)) = split_first(after_key) else {
         unreachable!()
     };
-    let (raw_value, space_after) = split_space_after(front_before(start, tail));
+    let (raw_value, space_after) = split_space_after(front_before(start, tail), read);
     PairPlaces {
         key: front_before(text, after_key),
         separator,
@@ -180,21 +180,21 @@ fn place_pair<'a>(
 }
 
 /// A value's own lines without the white space at their end, and that; all of them where a backslash stands
-/// before it.
-fn split_space_after(lines: &str) -> (&str, &str)
+/// before it that takes it along.
+fn split_space_after(lines: &str, read: ParseOption) -> (&str, &str)
     ensures whole { chars lines.now ≡ chars result.0.now ++ chars result.1.now }
-    ensures space_after { SpaceAfter (chars result.0.now) (chars result.1.now) }
+    ensures space_after { SpaceAfter (backslash_of read) (chars result.0.now) (chars result.1.now) }
 {
-    lines.split_at(without_space_after(lines).len())
+    lines.split_at(without_space_after(lines, read).len())
 }
 
 /// What stands before the white space at the end of a value's own lines.
-fn without_space_after(lines: &str) -> &str
-    ensures { IsBeforeSpace (chars lines.now) (chars result.now) }
+fn without_space_after(lines: &str, read: ParseOption) -> &str
+    ensures { IsBeforeSpace (backslash_of read) (chars lines.now) (chars result.now) }
 {
     let mut raw_value = lines;
     'white: while let Some((before, c)) = split_last(raw_value) {
-        if c == '\\' {
+        if read.begins_escape(c) {
             return lines;
         }
         if !Class::InlineWhite.contains(c) {

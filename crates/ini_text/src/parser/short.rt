@@ -100,7 +100,8 @@ fn split_short(text: &str, known: u64, ends: Endpoints) -> Option<(usize, char, 
     ensures seen { IfSome result (λ p. Sees (ends_of ends) p.3 text.now) }
 {
     // So many bytes follow that a run and an escape need no test of length.
-    let bits = marks_ahead(text.as_bytes(), known, LANES, &ends.marks());
+    let marks = ends.marks()?;
+    let bits = marks_ahead(text.as_bytes(), known, LANES, &marks);
     if bits == 0 {
         return None;
     }

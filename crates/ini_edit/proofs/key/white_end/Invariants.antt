@@ -8,7 +8,7 @@ abbrev pub invariant-characters : goal.invariant-characters
 invariant-characters l = record {
   white : shadow (Utf8 l.white);
   rest : shadow (Utf8 l.rest);
-  so_far : WhiteSoFar (chars l.fn.text) (chars l.white) (chars l.rest);
+  so_far : WhiteSoFar l.fn.line (chars l.fn.text) (chars l.white) (chars l.rest);
 }
 
 abbrev pub decreases-characters : goal.decreases-characters

@@ -193,7 +193,7 @@ fn pad_for<'t>(rules: &Rules<'t>, bare: &str, pad: &'t str) -> &'t str
 {
     match rules.style {
         Some(style) => {
-            if last_or(' ', bare) == '\\' && rules.read.has_special_backslash() {
+            if rules.read.begins_escape(last_or(' ', bare)) {
                 pad
             } else {
                 style.pad

@@ -76,5 +76,5 @@ pub(crate) fn push_end(out: &mut String, rules: &Rules<'_>) -> Result<(), Error>
 fn takes_no_end(text: &str, read: ParseOption) -> bool
     ensures { result ≡ takes_no_end read (chars text.now) }
 {
-    is_empty(text) || last_or('\n', text) == '\\' && read.has_special_backslash()
+    is_empty(text) || read.begins_escape(last_or('\n', text))
 }

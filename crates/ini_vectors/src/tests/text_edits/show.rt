@@ -1,10 +1,11 @@
 //! Documents, and answers of edits, as texts.
 use ini::{Error, Ini, ParseOption};
 use ini_edit::EditError;
+use ini_text::LoneLine;
 use std::alloc::Global;
 
-/// What a letter turns on: quotes, escapes, multiline values, kept indentation, brackets in names, and raw
-/// backslashes.
+/// What a letter turns on: quotes, escapes, multiline values, kept indentation, brackets in names, raw
+/// backslashes, and that lines without separator are refused.
 pub(crate) fn options_of(letters: &str) -> ParseOption {
     ParseOption {
         enabled_quote: letters.contains('q'),
@@ -13,6 +14,11 @@ pub(crate) fn options_of(letters: &str) -> ParseOption {
         enabled_preserve_key_leading_whitespace: letters.contains('k'),
         enabled_brackets_in_section_names: letters.contains('b'),
         enabled_raw_backslash: letters.contains('r'),
+        line_without_separator: if letters.contains('l') {
+            LoneLine::Refused
+        } else {
+            LoneLine::RunsOn
+        },
     }
 }
 

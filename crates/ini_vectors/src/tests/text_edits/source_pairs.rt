@@ -93,6 +93,7 @@ fn new_pairs_are_written_like_their_neighbours(rt: HostRuntime) -> Result<(), Fa
             ("set", "qe", "a|k||v|0", "[a]\nj=\\", "[a]\nj=\\\\\nk=v\n"),
             ("set", "q", "a|k||v|0", "[a]\nj=\\", "[a]\nj=\\ \nk=v\n"),
             ("set", "qr", "a|k||v|0", "[a]\nj=\\", "[a]\nj=\\\nk=v\n"),
+            ("set", "qel", "a|k||v|0", "[a]\nj=w\n", "[a]\nj=w\nk=v\n"),
         ],
     )
 }
@@ -115,6 +116,7 @@ fn pairs_go_with_their_line(rt: HostRuntime) -> Result<(), Fail> {
             ("delete", "qe", "-|k|||0", "x=y\rk=v\rj=w", "x=y\rj=w"),
             ("delete", "qe", "-|k|||0", "j=1\nk=2", "j=1\n"),
             ("delete", "qr", "-|k|||0", "k=1\\\nj=2", "j=2"),
+            ("delete", "qel", "-|k|||0", "k=1\nj=2", "j=2"),
             (
                 "delete",
                 "qem",

@@ -34,6 +34,7 @@ use Rattle.std.proofs.Common.{lit<}
 use Rattle.core.proofs.alloc.Calls.{handle_tells, α}
 use Rattle.std_alloc.proofs.ResultValues.{and_tt}
 use Rattle.std_heap.specs.contracts.Global as Heap
+use Rattle.ini_text.specs.declared.option.LoneLine.TheVariants.{RunsOn}
 use mir.Val.{has_ty}
 
 -- what a closed handle is seen to keep, whatever it is
@@ -48,6 +49,7 @@ no_kept = record {
       enabled_preserve_key_leading_whitespace = false;
       enabled_brackets_in_section_names = false;
       enabled_raw_backslash = false;
+      line_without_separator = RunsOn;
     };
     sections = [];
   };

@@ -1,11 +1,8 @@
-use Rattle.std.proofs.Common.{chars, ap, ◌∙◌, sym, subst}
-use Rattle.ini_text.specs.Options.ReadOptions.{backslash_of}
+use Rattle.std.proofs.Common.{chars, ap, ◌∙◌, refl, sym, subst}
 use Rattle.ini_text.specs.Grammar.CharacterKinds.{is_blank}
-use Rattle.ini_text.specs.Grammar.Strings.{key_ends}
-use Rattle.ini_text.specs.Inside.ElementReader.{after_blanks, given, indented_pair_of_key, kept_blanks, trimmed_key}
+use Rattle.ini_text.specs.Inside.ElementReader.{after_blanks, given, indented_pair_of_key, kept_blanks, key_string, trimmed_key}
 use Rattle.ini_text.specs.Inside.Reading.{Gives, prepend}
 use Rattle.ini_text.specs.Inside.Scans.{run_of}
-use Rattle.ini_text.specs.Inside.StringReader.{string}
 use Rattle.ini_text.proofs.PlaceLemmas.PairLemmas.{header_rests, unaltered, value_rests}
 use Rattle.ini_text.proofs.ReaderLemmas.ReaderLemmas.{read_after}
 use Rattle.ini_text.proofs.ReaderLemmas.ElementReaderLemmas.{blanks_front, key_at}
@@ -23,7 +20,7 @@ returns-in-Ok-clause-gives c =
     key_at o w c.in-Some.ensures.characters (sym c.is_line_end.ensures ∙ c.if-is_line_end.false)
     c.if-c-eq91.false
     ∙ ap (λ b. indented_pair_of_key o (trimmed_key o (prepend (kept_blanks o b)
-    (string (backslash_of o) key_ends start))))
+    (key_string o start))))
     (sym (c.front_before.ensures ∙ (blanks_front c.skip-start.ensures).0))
     ∙ ap (indented_pair_of_key o) c.in-Ok.ensures in
     subst (Gives given c.read_pair.result) (sym (ap (after_blanks o w) (sym c.skip-start.ensures) ∙ read))
@@ -38,15 +35,15 @@ returns-in-Err-clause-gives c =
     key_at o w c.in-Some.ensures.characters (sym c.is_line_end.ensures ∙ c.if-is_line_end.false)
     c.if-c-eq91.false
     ∙ ap (λ b. indented_pair_of_key o (trimmed_key o (prepend (kept_blanks o b)
-    (string (backslash_of o) key_ends start))))
+    (key_string o start))))
     (sym (c.front_before.ensures ∙ (blanks_front c.skip-start.ensures).0)) in
     subst (Gives given c.drop_tail.result) (sym (ap (after_blanks o w) (sym c.skip-start.ensures) ∙ read))
-    (c.drop_tail.ensures.gives o _ c.in-Err.ensures)
+    (c.drop_tail.ensures.gives o _ refl c.in-Err.ensures)
 
 pub returns-in-Ok-clause-rests : goal.returns-in-Ok-clause-rests
 returns-in-Ok-clause-rests c =
     λ places. value_rests c.args.read (chars c.args.text.now) c.read_pair.new.rests
-    (ap (string (backslash_of c.args.read) key_ends) (sym c.skip-start.ensures)
+    (ap (key_string c.args.read) (sym c.skip-start.ensures)
     ∙ (read_after _ _ (unaltered _ _ c.in-Ok.ensures).1).1)
     c.read_pair.result (c.read_pair.ensures.rests places)
 

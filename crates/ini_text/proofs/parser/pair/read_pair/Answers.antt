@@ -1,44 +1,54 @@
-use Rattle.std.proofs.Common.{◌≢◌, [], chars, length, ap, sym, ◌∙◌, eqb-true, eq-eqb, subst, true≢false}
+use Rattle.std.proofs.Common.{◌≢◌, [], chars, drop, length, ap, sym, ◌∙◌, eqb-true, eq-eqb, refl, subst, true≢false}
 use Rattle.std.specs.Cow.{cow_str_bytes}
 use Rattle.std.specs.Str.{IsUtf8}
-use Rattle.ini_text.specs.Inside.ElementReader.{after_separator, pair_of_value}
+use Rattle.ini_text.specs.Inside.ElementReader.{pair_of_value}
 use Rattle.ini_text.specs.Inside.PlaceReader.{HasTail}
 use Rattle.ini_text.specs.Parsing.Items.{cow_text}
 use Rattle.ini_text.proofs.StringLemmas.PushLemmas.{no_characters, some_characters}
 use Rattle.ini_text.proofs.ReaderLemmas.ReaderLemmas.{passed}
-use Rattle.ini_text.proofs.ReaderLemmas.ElementReaderLemmas.{after_key}
+use Rattle.ini_text.proofs.ReaderLemmas.ElementReaderLemmas.{separated, value_after}
 use Rattle.ini_text.proofs.parser.pair.read_pair.Goals as goal
+
+pub returns-in_default-clause-gives : goal.returns-in_default-clause-gives
+returns-in_default-clause-gives c = rw c.in_default.ensures.characters refl
+
+pub returns-then-is_line_end-clause-gives : goal.returns-then-is_line_end-clause-gives
+returns-then-is_line_end-clause-gives c =
+    rw (c.new.ensures, c.in-Some.ensures.characters, sym c.is_line_end.ensures ∙ c.if-is_line_end.true) refl
 
 pub returns-then-is_empty-clause-gives : goal.returns-then-is_empty-clause-gives
 returns-then-is_empty-clause-gives c =
+    let other = sym c.is_line_end.ensures ∙ c.if-is_line_end.false in
     rw (
+      c.new-then-is_empty.ensures,
+      separated c.args.read (cow_text c.args.key) c.in-Some.ensures.characters other,
       no_characters (cow_str_bytes c.args.key)
           (ap length (sym c.as_str.ensures.value)
           ∙ eqb-true _ 0 (sym c.is_empty.ensures ∙ c.if-is_empty.true)),
-      c.new.ensures,
-      c.after_first-after.ensures,
-    )
+    ) refl
 
 pub returns-in_err-value-clause-gives : goal.returns-in_err-value-clause-gives
 returns-in_err-value-clause-gives c =
+    let other = sym c.is_line_end.ensures ∙ c.if-is_line_end.false in
     let some : cow_text c.args.key ≢ [] =
     some_characters (cow_str_bytes c.args.key) (subst IsUtf8 c.as_str.ensures.value c.as_str.utf8)
     (λ none. true≢false
     (sym (eq-eqb _ 0 (ap length c.as_str.ensures.value ∙ none)) ∙ sym c.is_empty.ensures
     ∙ c.if-is_empty.false)) in
     passed _ _ _ c.from_residual.ensures.1 c.in_err-value.ensures.gives λ r k h.
-    ap (after_separator c.args.read (cow_text c.args.key)) (sym c.after_first-after.ensures)
-    ∙ after_key c.args.read _ _ some ∙ ap (pair_of_value (cow_text c.args.key)) h
+    separated c.args.read (cow_text c.args.key) c.in-Some.ensures.characters other
+    ∙ value_after c.args.read _ _ some ∙ ap (pair_of_value (cow_text c.args.key)) h
 
 pub returns-clause-gives : goal.returns-clause-gives
 returns-clause-gives c =
+    let other = sym c.is_line_end.ensures ∙ c.if-is_line_end.false in
     let some : cow_text c.args.key ≢ [] =
     some_characters (cow_str_bytes c.args.key) (subst IsUtf8 c.as_str.ensures.value c.as_str.utf8)
     (λ none. true≢false
     (sym (eq-eqb _ 0 (ap length c.as_str.ensures.value ∙ none)) ∙ sym c.is_empty.ensures
     ∙ c.if-is_empty.false)) in
-    ap (after_separator c.args.read (cow_text c.args.key)) (sym c.after_first-after.ensures)
-    ∙ after_key c.args.read _ _ some
+    separated c.args.read (cow_text c.args.key) c.in-Some.ensures.characters other
+    ∙ value_after c.args.read _ _ some
     ∙ ap (pair_of_value (cow_text c.args.key)) c.in_ok-value.ensures.gives
 
 pub returns-clause-rests : goal.returns-clause-rests
@@ -47,5 +57,5 @@ returns-clause-rests c = λ places. (
   rw (c.keep_key.ensures.start, c.keep_key.ensures.tail)
       (subst (λ t. HasTail c.args.read t (chars c.read_value.new.rests.start.now)
       (chars c.read_value.new.rests.tail.now) (cow_text c.in_ok-value.value) (chars c.in_ok-value.end.now))
-      c.after_first-after.ensures (c.in_ok-value.ensures.rests places)),
+      (ap (drop 1) (sym c.in-Some.ensures.characters)) (c.in_ok-value.ensures.rests places)),
 )

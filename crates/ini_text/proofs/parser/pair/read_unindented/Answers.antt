@@ -1,9 +1,6 @@
 use Rattle.std.proofs.Common.{◌∙◌, ap, chars}
-use Rattle.ini_text.specs.Options.ReadOptions.{backslash_of}
-use Rattle.ini_text.specs.Grammar.Strings.{key_ends}
-use Rattle.ini_text.specs.Inside.StringReader.{string}
 use Rattle.ini_text.proofs.PlaceLemmas.PairLemmas.{unaltered, value_rests}
-use Rattle.ini_text.specs.Inside.ElementReader.{pair_of_key}
+use Rattle.ini_text.specs.Inside.ElementReader.{key_string, pair_of_key}
 use Rattle.ini_text.proofs.ReaderLemmas.ReaderLemmas.{passed}
 use Rattle.ini_text.proofs.parser.pair.read_unindented.Goals as goal
 
@@ -14,5 +11,5 @@ returns-in_err-key-clause-gives c =
 pub returns-clause-rests : goal.returns-clause-rests
 returns-clause-rests c =
     λ places. value_rests c.args.read (chars c.args.text.now) c.read_pair.new.rests
-    (ap (string (backslash_of c.args.read) key_ends) c.requires ∙ (unaltered _ _ c.in_ok-key.ensures).1)
+    (ap (key_string c.args.read) c.requires ∙ (unaltered _ _ c.in_ok-key.ensures).1)
     c.read_pair.result (c.read_pair.ensures.rests places)

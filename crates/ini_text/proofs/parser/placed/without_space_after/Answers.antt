@@ -5,15 +5,15 @@ use Rattle.ini_text.proofs.parser.placed.without_space_after.Goals as goal
 pub white-init : goal.white-init
 white-init c = record { text = search rules; space = space_none (chars c.args.lines.now) }
 
-pub returns-then-c-eq92 : goal.returns-then-c-eq92
-returns-then-c-eq92 c =
+pub returns-then-begins_escape : goal.returns-then-begins_escape
+returns-then-begins_escape c =
     space_escaped (chars c.in-Some.before.now) c.in-Some.c c.white.invariant.space c.in-Some.ensures
-    c.if-c-eq92.true
+    (sym c.begins_escape.ensures ∙ c.if-begins_escape.true)
 
 pub returns-then-not-contains : goal.returns-then-not-contains
 returns-then-not-contains c =
     space_bare (chars c.in-Some.before.now) c.in-Some.c c.white.invariant.space c.in-Some.ensures
-    c.if-c-eq92.false (sym c.contains.ensures ∙ c.if-not-contains.true)
+    (sym c.begins_escape.ensures ∙ c.if-begins_escape.false) (sym c.contains.ensures ∙ c.if-not-contains.true)
 
 pub white-smaller : goal.white-smaller
 white-smaller c = shorter_before (chars c.in-Some.before.now) c.in-Some.c c.in-Some.ensures
