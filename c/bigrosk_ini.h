@@ -149,9 +149,10 @@ struct bigrosk_ini_reading {
     bool brackets;
     bool raw_backslash;    /* where escapes are off, a backslash is a character like any other, before a line feed too */
     uint8_t lone_lines;    /* enum bigrosk_ini_lone_lines; any other number is refused */
+    uint8_t indented_comments; /* with 1, blanks and ; or # begin a comment where a line starts; 0 without; no other number */
 };
 #define BIGROSK_INI_READING_DEFAULT \
-    { sizeof(struct bigrosk_ini_reading), true, true, false, false, false, false, BIGROSK_INI_LONE_LINES_RUN_ON }
+    { sizeof(struct bigrosk_ini_reading), true, true, false, false, false, false, BIGROSK_INI_LONE_LINES_RUN_ON, 0 }
 
 /* Which characters of names, keys and values are escaped. */
 enum bigrosk_ini_policy {

@@ -434,6 +434,31 @@ j'
 note: the text ends at 2:6" --lone-lines refused set settings.ini k 3
 }
 
+# comments after blanks, and where they begin keys
+indented_comments() {
+    fresh
+    printf 'k = 1\n  ; j = 2\n\t# note\n[a]\nx = 1\n' >settings.ini
+    case_of 'the key of an indented comment' 1 '' '' --indented-comments get settings.ini '; j'
+    case_of 'the same where it is one' 0 '2\n' '' get settings.ini '; j'
+    case_of 'pairs and no comments' 0 '\tk\t1\n[a]\tx\t1\n' '' --indented-comments list settings.ini
+    case_of 'the same as git reads them' 0 '\tk\t1\n[a]\tx\t1\n' '' --like git list settings.ini
+    case_of 'an indented comment is no trap' 0 '' '' --indented-comments check settings.ini
+    edit 'set above an indented comment' 'k = 3\n  ; j = 2\n\t# note\n[a]\nx = 1\n' \
+        --indented-comments set settings.ini k 3
+    edit 'a new pair goes before it' 'k = 3\nnew = 4\n  ; j = 2\n\t# note\n[a]\nx = 1\n' \
+        --indented-comments set settings.ini new 4
+    edit 'delete: it stays' 'k = 3\n  ; j = 2\n\t# note\n[a]\nx = 1\n' --indented-comments delete settings.ini new
+    edit 'rename-key over a comment with that key' 'k = 3\n  ; j = 2\n\t# note\n[a]\ny = 1\n' \
+        --indented-comments rename-key settings.ini x y a
+    printf 'k = a\n ; c\n b\n\t# d\nj = 1\n' >settings.ini
+    case_of 'among the lines of a value' 0 'a\nb\n' '' --multiline --indented-comments get settings.ini k
+    case_of 'the same where it is a line of the value' 0 'a\n; c\nb\n# d\n' '' --multiline get settings.ini k
+    printf '[a] ; c\nk = 1\n' >settings.ini
+    refused 'set over a comment after a header' 3 "settings.ini:1:5: a comment begins only at the front of a line
+[a] ; c
+    ^" --indented-comments set settings.ini k 3 a
+}
+
 # a key that begins with a byte order mark, at the front of a file that has none, and of one that has one
 marks() {
     fresh
@@ -621,7 +646,7 @@ telling() {
     case_of 'control characters of a file name' 4 '' \
         'ini_file: no\x001bne\x0009.ini: No such file or directory (os error 2)' list "no${escape}ne	.ini"
     printf '[a%s]\t ; c\n' "$escape" >odd.ini
-    case_of 'a caret below tabs and control characters' 3 '' "odd.ini:1:7: a comment begins only in the first column of a line
+    case_of 'a caret below tabs and control characters' 3 '' "odd.ini:1:7: a comment begins only at the front of a line
 [a\\x001b]	 ; c
          	 ^" list odd.ini
     printf '\t =v\r\n' >odd.ini
@@ -1336,6 +1361,7 @@ making
 renaming
 paths
 lone_lines
+indented_comments
 marks
 encodings
 further_encodings

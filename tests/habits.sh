@@ -34,13 +34,14 @@ offered() {
 mkdir "$room/files"
 : >"$room/files/one.ini"
 : >"$room/files/one two"
-options='--brackets --crlf --indent --lone-lines --multiline --noescape --noquote --policy --raw-backslash '
+options='--brackets --crlf --indent --indented-comments --lone-lines --multiline --noescape --noquote --policy --raw-backslash '
 if has bash completions; then
     offered 'del fmt get list set ' ini_tool ''
     offered 'get ' ini_tool g
     offered 'get ' /usr/bin/ini_tool --crlf --policy Basics g
     offered "$options" ini_tool -
     offered '--noescape --noquote ' ini_tool --crlf --no
+    offered '--indented-comments ' ini_tool --crlf --indented
     offered 'Nothing ' ini_tool --policy N
     offered 'refused ' ini_tool --lone-lines re
     offered 'refused runs-on ' ini_file --crlf --lone-lines ''

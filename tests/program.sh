@@ -12,7 +12,7 @@ file=$(program_of ini_file "${2:-}") || exit 1
 mkdir "$room/bin"
 ln -s "$program" "$room/bin/ini_tool"
 ln -s "$file" "$room/bin/ini_file"
-options='[--noescape] [--noquote] [--multiline] [--indent] [--brackets] [--raw-backslash] [--lone-lines NAME] [--crlf] [--policy NAME]'
+options='[--noescape] [--noquote] [--multiline] [--indent] [--brackets] [--raw-backslash] [--indented-comments] [--lone-lines NAME] [--crlf] [--policy NAME]'
 usage="usage: ini_tool $options fmt|list|get KEY [SECTION]|set KEY VALUE [SECTION]|del KEY [SECTION]"
 
 # told NAME STATUS WANTED ERROR: the last run's status, and what it wrote on standard error
@@ -90,6 +90,20 @@ fmt|k="a"|0|k=a\n|
 --noescape --raw-backslash list|p=C:\\x\\\nk=v|0|\tp\tC:\\\\x\\\\\n\tk\tv\n|
 --raw-backslash --noescape list|[a\\]\nb\\=c|0|[a\\\\]\tb\\\\\tc\n|
 --raw-backslash list|p=a\\tb\\\nc|0|\tp\ta\\tbc\n|
+--indented-comments list|  ; c\nk=v\n|0|\tk\tv\n|
+--indented-comments list|\t# a=b|0||
+--indent --indented-comments list|\t# a=b|0||
+--indented-comments list|  \\;a=b\n|0|\t;a\tb\n|
+--indented-comments fmt|k=v\r# c\rj=w\n|0|k=v\nj=w\n|
+--indented-comments list|k=v\r  # c\rj=w\n|0|\tk\tv\n\tj\tw\n|
+--multiline --indented-comments list|k=a\n ; c\n b\n|0|\tk\ta\\nb\n|
+--indented-comments --multiline get k|k=a\n; c\n b\n|0|a\n|
+--indented-comments --lone-lines refused list|  ; c\nk=v\n|0|\tk\tv\n|
+--indented-comments set k w|# c\n  ; c\nk=v\n|0|k=w\n|
+list|  ; c\nk=v\n|0|\t; c\\nk\tv\n|
+list|k=v\r  # c\rj=w\n|0|\tk\tv\n\t# c\\rj\tw\n|
+--multiline list|k=a\n ; c\n b\n|0|\tk\ta\\n; c\\nb\n|
+set --indented-comments x||0|--indented-comments=x\n|
 --lone-lines refused fmt|; c\nk=v\n\n[a]\n  x : y\n|0|k=v\n\n[a]\nx=y\n|
 --lone-lines refused list|a\\\nb=c\n|0|\tab\tc\n|
 --lone-lines refused list|  \n  |0||
@@ -227,6 +241,9 @@ del k s x|k=v\n|2||USAGE
 --crlf --policy Nothing|k=v\n|2||USAGE
 --brackets-in fmt|k=v\n|2||USAGE
 --raw-backslashes fmt|k=v\n|2||USAGE
+--indented-comments|k=v\n|2||USAGE
+--indented-comment fmt|k=v\n|2||USAGE
+--indented-comments= fmt|k=v\n|2||USAGE
 --lone-lines|k=v\n|2||USAGE
 --lone-lines fmt|k=v\n|2||USAGE
 --lone-lines refuse fmt|k=v\n|2||USAGE
@@ -257,6 +274,9 @@ del k s ''|k=v|2||USAGE
 --policy '' fmt|k=v|2||USAGE
 # refused texts
 --brackets fmt|[a]x\n|3||ini_tool: 2:1 section must be ended with ']'
+--indented-comments get k|k=1\n[a] ; c|3||ini_tool: 2:6 doesn't support inline comment
+fmt|k=v\r# c\rj=w\n|3||ini_tool: 1:6 doesn't support inline comment
+--indented-comments --lone-lines refused fmt|  ; c\nabc\nk=v\n|3||ini_tool: 3:1 no separator follows the key in its line
 --lone-lines refused fmt|abc\nk=v\n|3||ini_tool: 2:1 no separator follows the key in its line
 --lone-lines refused list|[a] b\n|3||ini_tool: 2:1 no separator follows the key in its line
 --lone-lines refused get k|k=v\n  ; c\nk=v\n|3||ini_tool: 3:1 no separator follows the key in its line

@@ -47,6 +47,7 @@ list settings.ini more|more is one word too many: list takes FILE
 list --policy Basic settings.ini|Basic is no policy; --policy takes one of $policies
 list settings.ini --policy=basics|basics is no policy; --policy takes one of $policies
 list settings.ini --policy|--policy takes NAME
+list settings.ini --indented-comments=yes|--indented-comments takes no text
 list settings.ini --lone-lines refuse|refuse is no word on lone lines; --lone-lines takes refused or runs-on
 list settings.ini --lone-lines=--policy --policy Basics|--policy is no word on lone lines; --lone-lines takes refused or runs-on
 --lone-lines= list settings.ini| is no word on lone lines; --lone-lines takes refused or runs-on
@@ -191,6 +192,8 @@ set settings.ini name two -n|\055-- settings.ini\n+++ settings.ini\n@@ -2,1 +2,1
 -n delete settings.ini id -s client|\055-- settings.ini\n+++ settings.ini\n@@ -6,1 +5,0 @@\n-id=7\n
 -n delete-section settings.ini -s client|\055-- settings.ini\n+++ settings.ini\n@@ -5,2 +4,0 @@\n-[client]\n-id=7\n
 -n rename-key settings.ini id key -s client|\055-- settings.ini\n+++ settings.ini\n@@ -6,1 +6,1 @@\n-id=7\n+key=7\n
+get settings.ini name --indented-comments|one\n
+get --indented-comments settings.ini name|one\n
 get settings.ini name --lone-lines refused|one\n
 get settings.ini --lone-lines=refused name|one\n
 --lone-lines=refused get settings.ini name --lone-lines runs-on|one\n
@@ -539,10 +542,15 @@ refused() {
 --noquote~k = "v\\x1~1:7: this escape has no end~k = "v\x1~      ^~note: the text ends at 1:10
 ~a = 1\n  = 2\n~2:3: no key stands before this~  = 2~  ^~
 ~: 2\n~1:1: no key stands before this~: 2~^~
-~[s] ; a\n~1:5: a comment begins only in the first column of a line~[s] ; a~    ^~
+~[s] ; a\n~1:5: a comment begins only at the front of a line~[s] ; a~    ^~
 ~k = \\x12\\z4\n~1:10: a backslash stands among the four digits after \x~k = \x12\z4~         ^~
 ~k = \\xd800\n~1:10: no character has these four digits after \x~k = \xd800~         ^~
 --brackets~[a]x\nk=v\n~1:5: the line of a section's name doesn't end in ]~[a]x~    ^~
+--indented-comments~[s] ; a\n~1:5: a comment begins only at the front of a line~[s] ; a~    ^~
+--indented-comments~  ; a\n  = 2\n~2:3: no key stands before this~  = 2~  ^~
+--indented-comments~k = v\r;a\r[b\n~1:10: this bracket isn't closed~k = v\x000d;a\x000d[b~                   ^~note: the text ends at 2:1
+--indented-comments --lone-lines refused~  ; a\nabc\nk = v\n~2:1: this key has no = or : after it in its line~abc~^~
+--like git~\t; a\nkey\n~2:1: this key has no = or : after it~key~^~note: the text ends at 3:1
 --lone-lines refused~a = 1\nabc\nk = v\n~2:1: this key has no = or : after it in its line~abc~^~
 --lone-lines=refused~[a] b c\r\nk = v\n~1:5: this key has no = or : after it in its line~[a] b c~    ^~
 --lone-lines refused~k = v\n  ; c\n[b\n~2:3: this key has no = or : after it in its line~  ; c~  ^~
@@ -653,6 +661,7 @@ END
 |[k|[ begins it
 | k|white space begins or ends it: use --indent
 --multiline| k|white space begins or ends it
+--indent --indented-comments|  ;k|white space begins or ends it: use --policy Reserved
 |k |white space begins or ends it
 |;k|; or # begins it: use --policy Reserved
 |#k|; or # begins it: use --policy Reserved
@@ -689,6 +698,7 @@ END
 --noescape --policy Nothing --raw-backslash|key|a\\b
 --policy Nothing|value|a\013b
 --indent|key| k
+--indent --indented-comments --policy Reserved|key|  ;k
 --policy Reserved|key|;k
 --policy Reserved|key|a=b
 --brackets|name|s]

@@ -204,7 +204,8 @@ static bool is_of_lone_line(const fault *f)
 }
 
 /* The text by all options: as by the first five, but for backslashes where these are raw, which then keep no
- * line end, and for lines without separator where these are refused. A text in pieces is read as a document is. */
+ * line end, for comment marks where comments may be indented, and for lines without separator where these are
+ * refused. A text in pieces is read as a document is. */
 static void read_by(const struct input *input, uint32_t status, const struct listing *listing)
 {
     const struct bigrosk_ini_reading *reading = &input->reading;
@@ -214,6 +215,8 @@ static void read_by(const struct input *input, uint32_t status, const struct lis
     fault f = { 0, 0, 0, "" };
     bool is_raw = reading->raw_backslash && !reading->escapes;
     bool differs = is_raw && text.count && memchr(text.at, '\\', text.count);
+    if (reading->indented_comments && text.count)
+        differs = differs || memchr(text.at, ';', text.count) || memchr(text.at, '#', text.count);
     bool is_strict = reading->lone_lines == BIGROSK_INI_LONE_LINES_REFUSED;
     uint32_t told = bigrosk_ini_load_by(text.at, text.count, input->drop_mark, reading, &it, &f);
     PROMISE(told == status || (differs && (told == BIGROSK_INI_OK || told == BIGROSK_INI_BROKEN))
@@ -229,9 +232,18 @@ static void read_by(const struct input *input, uint32_t status, const struct lis
     }
     told = bigrosk_ini_load_by(text.at, text.count, false, reading, &it, &f);
     PROMISE(bigrosk_ini_text_open_by(text.at, text.count, reading, &pieces, &f) == told);
-    note(30, told);
+    note(30u + reading->indented_comments, told);
     bigrosk_ini_text_close(&pieces);
     bigrosk_ini_free(&it);
+}
+
+/* The same without indented comments, and with them. */
+static void read_by_all(struct input *input, uint32_t status, const struct listing *listing)
+{
+    for (uint8_t comments = 0; comments < 2; comments++) {
+        input->reading.indented_comments = comments;
+        read_by(input, status, listing);
+    }
 }
 
 int LLVMFuzzerTestOneInput(const uint8_t *data, size_t size)
@@ -250,12 +262,12 @@ int LLVMFuzzerTestOneInput(const uint8_t *data, size_t size)
         look_up(&it, &listing, &input);
         write_and_load(&it, &listing, &input);
         edit_document(&listing, &input);
-        read_by(&input, status, &listing);
+        read_by_all(&input, status, &listing);
         free_listing(&listing);
     } else {
         PROMISE(status == BIGROSK_INI_BROKEN || status == BIGROSK_INI_NOT_UTF8);
         is_refused(&input, text, status, &f, &it);
-        read_by(&input, status, NULL);
+        read_by_all(&input, status, NULL);
     }
     bigrosk_ini_free(&it);
     PROMISE(!it.is_open);

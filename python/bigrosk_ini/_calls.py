@@ -76,7 +76,8 @@ class Sizes(ctypes.Structure):
 class ReadOption(ctypes.Structure):
     """How a text is read. With raw_backslash, where escapes are off, a backslash is a character like any
     other, before a line feed too. With lone_lines="refused" a text is refused where no separator follows a key
-    in its line; else such keys "run on" over the line end."""
+    in its line; else such keys "run on" over the line end. With indented_comments, blanks and ; or # begin a
+    comment where a line starts."""
 
     _fields_ = [
         ("size", ctypes.c_uint8),
@@ -87,6 +88,7 @@ class ReadOption(ctypes.Structure):
         ("brackets", ctypes.c_bool),
         ("raw_backslash", ctypes.c_bool),
         ("_lone_lines", ctypes.c_uint8),
+        ("indented_comments", ctypes.c_bool),
     ]
 
     def __init__(
@@ -98,10 +100,12 @@ class ReadOption(ctypes.Structure):
         brackets: bool = False,
         raw_backslash: bool = False,
         lone_lines: str = "run on",
+        indented_comments: bool = False,
     ) -> None:
         size = ctypes.sizeof(ReadOption)
         super().__init__(size, quotes, escapes, multiline, keep_indentation, brackets, raw_backslash)
         self.lone_lines = lone_lines
+        self.indented_comments = indented_comments
 
     @property
     def lone_lines(self) -> str:
@@ -115,7 +119,7 @@ class ReadOption(ctypes.Structure):
 
     def has_later_ones(self) -> bool:
         """Whether an option that FirstFive lacks is another than by default."""
-        return bool(self.raw_backslash or self._lone_lines)
+        return bool(self.raw_backslash or self._lone_lines or self.indented_comments)
 
 
 class FirstFive(ctypes.Structure):

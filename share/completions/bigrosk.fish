@@ -39,7 +39,7 @@ function __bigrosk_lone_lines
 end
 
 function __bigrosk_options
-    printf '%s\n' --noescape --noquote --multiline --indent --brackets --raw-backslash --lone-lines --crlf --policy
+    printf '%s\n' --noescape --noquote --multiline --indent --brackets --raw-backslash --indented-comments --lone-lines --crlf --policy
 end
 
 # The sections of the file that is named.

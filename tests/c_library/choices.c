@@ -96,7 +96,7 @@ static void readings(void)
     struct bigrosk_ini_reading r = BIGROSK_INI_READING_DEFAULT;
     document d = BIGROSK_INI_EMPTY;
     fault f;
-    CHECK(r.size == sizeof r && r.size == 8);
+    CHECK(r.size == sizeof r && r.size == 9);
     CHECK(!are_read(&r, "C:xk=v", false)); /* \x begins an escape, and is broken */
     r.raw_backslash = true;
     CHECK(bigrosk_ini_load_by((const uint8_t *)"k=a\\tb\n", 7, true, &r, &d, &f) == BIGROSK_INI_OK);
@@ -122,7 +122,7 @@ static void readings(void)
         for (int raw = 0; raw < 2; raw++) {
             const bool *o = rows[i].others;
             struct bigrosk_ini_read_option five = { o[0], o[1], o[2], o[3], o[4] };
-            struct bigrosk_ini_reading all = { sizeof all, o[0], o[1], o[2], o[3], o[4], raw, BIGROSK_INI_LONE_LINES_RUN_ON };
+            struct bigrosk_ini_reading all = { sizeof all, o[0], o[1], o[2], o[3], o[4], raw, BIGROSK_INI_LONE_LINES_RUN_ON, 0 };
             document one = BIGROSK_INI_EMPTY, other = BIGROSK_INI_EMPTY;
             const uint8_t *text = bigrosk_ini_bytes(rows[i].text);
             size_t n = strlen(rows[i].text), count = 0;
@@ -187,12 +187,62 @@ static void lone_lines(void)
         CHECK(bigrosk_ini_load_by((const uint8_t *)"j=w\n", 4, true, &later, &d, &f) == want);
         CHECK(is_value(&d, NULL, number < 2 ? "j" : "k", number < 2 ? "w" : "v"));
         /* a program that was compiled before */
-        later.size = sizeof later - 1;
+        later.size = offsetof(struct bigrosk_ini_reading, lone_lines);
         CHECK(answered(&later, "abc\nk=v\n", &f) == BIGROSK_INI_OK && bigrosk_ini_is_plain_by(&d, &plain, &later));
         struct bigrosk_ini_write_option w = plain;
         CHECK(bigrosk_ini_dialect_by_str("hg", &later, &w) == BIGROSK_INI_OK);
-        CHECK(later.raw_backslash && later.lone_lines == number && later.size == sizeof later - 1);
+        CHECK(later.raw_backslash && later.lone_lines == number && later.size == 7);
         later = r;
+    }
+    bigrosk_ini_free(&d);
+}
+
+/* whether the text is read so by the options, and has the document that is written so */
+static bool has_document(const struct bigrosk_ini_reading *reading, const char *text, const char *want)
+{
+    document d = BIGROSK_INI_EMPTY;
+    fault f;
+    bool good = bigrosk_ini_load_by((const uint8_t *)text, strlen(text), true, reading, &d, &f) == BIGROSK_INI_OK;
+    good = good && is_written(&d, &plain, want);
+    bigrosk_ini_free(&d);
+    return good;
+}
+
+/* Indented comments, among the lines of a value too, and behind CR; numbers that stand for nothing, and a size that doesn't
+ * reach them. */
+static void indented_comments(void)
+{
+    static const struct { const char *text, *with, *without; bool multiline; } rows[] = {
+        { "  ; c\nk=v\n", "k=v\n", "; c\\nk=v\n", false },   { "\t# a=b", "", "# a=b\n", false },
+        { "  \\;a=b\n", ";a=b\n", ";a=b\n", false },          { "k=v\r# c\rj=w\n", "k=v\nj=w\n", NULL, false },
+        { "k=v\r  # c\rj=w\n", "k=v\nj=w\n", "k=v\n# c\\rj=w\n", false },
+        { "k=a\n ; c\n b\n", "k=a\\nb\n", "k=a\\n; c\\nb\n", true },
+        { "k=a\n; c\n b\n", "k=a\n", "k=a\n", true },       { "[a] ; c\n", NULL, NULL, false },
+    };
+    struct bigrosk_ini_reading r = BIGROSK_INI_READING_DEFAULT, later = r;
+    document d = BIGROSK_INI_EMPTY;
+    fault f = { 77, 7, 7, "seven" };
+    CHECK(r.indented_comments == 0);
+    for (size_t i = 0; i < sizeof rows / sizeof *rows; i++)
+        for (int number = 0; number < 2; number++) {
+            const char *want = number ? rows[i].with : rows[i].without;
+            later.multiline = rows[i].multiline;
+            later.indented_comments = (uint8_t)number;
+            CHECK(answered(&later, rows[i].text, &f) == (want ? BIGROSK_INI_OK : BIGROSK_INI_BROKEN));
+            CHECK(!want || has_document(&later, rows[i].text, want));
+        }
+    CHECK(bigrosk_ini_load_str("k=v\n", &d, &f) == BIGROSK_INI_OK);
+    for (int number = 2; number < 256; number++) {
+        later = r;
+        later.indented_comments = (uint8_t)number;
+        CHECK(answered(&later, "k=v\n", &f) == BIGROSK_INI_UNKNOWN_OPTION && answered(&later, "\xff", &f) == BIGROSK_INI_NOT_UTF8);
+        CHECK(!bigrosk_ini_is_plain_by(&d, &plain, &later));
+        /* a program that was compiled before */
+        later.size = offsetof(struct bigrosk_ini_reading, indented_comments);
+        CHECK(answered(&later, "k=v\n", &f) == BIGROSK_INI_OK && bigrosk_ini_is_plain_by(&d, &plain, &later));
+        struct bigrosk_ini_write_option w = plain;
+        CHECK(bigrosk_ini_dialect_by_str("strict", &later, &w) == BIGROSK_INI_OK && later.size == 8);
+        CHECK(later.lone_lines == BIGROSK_INI_LONE_LINES_REFUSED && later.indented_comments == number);
     }
     bigrosk_ini_free(&d);
 }
@@ -434,6 +484,7 @@ static void dialects(void)
         { "strict", { true, true, false, false, false }, { BIGROSK_INI_BASICS, false, 0 } },
     };
     static const char *const raw[] = { "python", "fail2ban", "aws", "hg", "mysql", NULL };
+    static const char *const commented[] = { "git", "desktop", "python", "odbc", "freetds", NULL };
     for (size_t i = 0; i < sizeof rows / sizeof *rows; i++) {
         struct bigrosk_ini_read_option r = { true, true, true, true, true }, wanted = rows[i].read;
         struct bigrosk_ini_write_option w = { 5, true, 9 };
@@ -443,7 +494,7 @@ static void dialects(void)
         CHECK(w.policy == rows[i].write.policy && w.crlf == rows[i].write.crlf && w.separator == rows[i].write.separator);
         /* the struct with further options is told the same, and these */
         for (int before = 0; before < 2; before++) {
-            struct bigrosk_ini_reading all = { sizeof all, before, before, before, before, before, before, before };
+            struct bigrosk_ini_reading all = { sizeof all, before, before, before, before, before, before, before, before };
             struct bigrosk_ini_write_option v = { 5, true, 9 };
             CHECK(bigrosk_ini_dialect_by_str(rows[i].name, &all, &v) == BIGROSK_INI_OK && all.size == sizeof all);
             CHECK(all.quotes == wanted.quotes && all.escapes == wanted.escapes && all.multiline == wanted.multiline);
@@ -451,6 +502,7 @@ static void dialects(void)
             CHECK(all.raw_backslash == is_word_of(raw, rows[i].name));
             bool is_strict = !strcmp(rows[i].name, "strict");
             CHECK(all.lone_lines == (is_strict ? BIGROSK_INI_LONE_LINES_REFUSED : BIGROSK_INI_LONE_LINES_RUN_ON));
+            CHECK(all.indented_comments == is_word_of(commented, rows[i].name));
             CHECK(v.policy == w.policy && v.crlf == w.crlf && v.separator == w.separator);
         }
     }
@@ -461,10 +513,11 @@ static void dialects(void)
         CHECK(bigrosk_ini_dialect_str(others[i], &r, &w) == (i == 4 ? BIGROSK_INI_NOT_UTF8 : BIGROSK_INI_ABSENT));
         CHECK(r.quotes && !r.escapes && r.multiline && !r.keep_indentation && r.brackets);
         CHECK(w.policy == 5 && w.crlf && w.separator == 9);
-        struct bigrosk_ini_reading all = { sizeof all, true, false, true, false, true, true, 9 };
+        struct bigrosk_ini_reading all = { sizeof all, true, false, true, false, true, true, 9, 9 };
         CHECK(bigrosk_ini_dialect_by_str(others[i], &all, &w) == (i == 4 ? BIGROSK_INI_NOT_UTF8 : BIGROSK_INI_ABSENT));
         CHECK(all.size == sizeof all && all.quotes && !all.escapes && all.multiline && !all.keep_indentation);
-        CHECK(all.brackets && all.raw_backslash && all.lone_lines == 9 && w.policy == 5 && w.crlf && w.separator == 9);
+        CHECK(all.brackets && all.raw_backslash && all.lone_lines == 9 && all.indented_comments == 9);
+        CHECK(w.policy == 5 && w.crlf && w.separator == 9);
     }
 }
 
@@ -473,6 +526,7 @@ int main(void)
     read_options();
     readings();
     lone_lines();
+    indented_comments();
     dialects();
     policies();
     line_ends_and_separators();

@@ -83,8 +83,8 @@ def reading():
         same(Document(text).walk(), without)
         same(Document(text, default).walk(), without)
     # by their places
-    names += ["raw_backslash", "lone_lines"]
-    for values in ([False, True, False, True, False, True, "run on"], [True, False, True, False, True, False, "refused"]):
+    names += ["raw_backslash", "lone_lines", "indented_comments"]
+    for values in ([False, True] * 3 + ["run on", True], [True, False] * 3 + ["refused", False]):
         option = ReadOption(*values)
         same([getattr(option, name) for name in names], values)
     same(ReadOption(True, False, True, False, True).raw_backslash, False)
@@ -178,6 +178,40 @@ def lone_lines():
     same([dialect(name)[0].lone_lines for name in ("python", "crate", "strict")], ["run on", "run on", "refused"])
     same(edit_set("k=v\n", None, "k", "w", dialect="strict"), "k=w\n")
     same(raised(edit_set, "k=v\nj\n", None, "k", "w", dialect="strict").kind, "no separator")
+
+
+COMMENTED = ReadOption(indented_comments=True)
+
+
+def indented_comments():
+    """By indented_comments, blanks and a mark begin a comment where a line starts; by default, a key."""
+    text = "k=v\n  ; c\n[s]\n\t# d\n  j=w\n"
+    for call in (Document, Settings):
+        same(list(call(text, COMMENTED).walk()), [(None, [("k", "v")]), ("s", [("j", "w")])])
+        for read in (None, ReadOption(), ReadOption(indented_comments=False)):
+            same(list(call(text, read).walk()), [(None, [("k", "v"), ("; c\n[s]\n\t# d\n  j", "w")])])
+        same(list(call("k=v\r; c\rj=w\n", COMMENTED).walk()), [(None, [("k", "v"), ("j", "w")])])
+        same(raised(call, "k=v\r; c\rj=w\n").kind, "inline comment")
+        lines = ReadOption(multiline=True, indented_comments=True)
+        same(list(call("k=a\n ; c\n b\n; d\n", lines).walk()), [(None, [("k", "a\nb")])])
+    # each edit, as str and as bytes after a mark
+    for call, words, wanted in (
+        (edit_set, (None, "k", "w"), text.replace("k=v", "k=w")),
+        (edit_add, ("s", "i", "u"), text + "  i=u\n"),
+        (edit_delete, (None, "k"), text.replace("k=v\n", "")),
+        (edit_rename_key, ("s", "j", "i"), text.replace("j=w", "i=w")),
+        (edit_delete_section, ("s",), "k=v\n  ; c\n"),
+        (edit_rename_section, ("s", "t"), text.replace("[s]", "[t]")),
+    ):
+        same(call(text, *words, read=COMMENTED), wanted)
+        same(call((MARK + text).encode(), *words, read=COMMENTED), (MARK + wanted).encode())
+    option = ReadOption()
+    option.indented_comments = True
+    same(list(Document("  ; c\n", option).walk()), [(None, [])])
+    same([Document("k=v\n").is_plain(None, read) for read in (COMMENTED, option)], [True, True])
+    # a dialect's
+    same([dialect(name)[0].indented_comments for name in ("git", "systemd", "crate")], [True, False, False])
+    same(edit_set("[s]\n  ; c\n  k=v\n", "s", "k", "w", dialect="git"), "[s]\n  ; c\n  k=w\n")
 
 
 def marks():
@@ -504,7 +538,7 @@ def threads():
     same(wrong, [])
 
 
-for part in (reading, raw_backslashes, lone_lines, dialects, marks, writing, plain, edits, faults, unwritable, absent, no_texts, copies):
+for part in (reading, raw_backslashes, lone_lines, indented_comments, dialects, marks, writing, plain, edits, faults, unwritable, absent, no_texts, copies):
     part()
 nothing_loaded()
 threads()

@@ -362,7 +362,7 @@ static void dialects(const char *path)
 {
     struct bigrosk_ini_file unit = BIGROSK_INI_FILE_EMPTY, git = BIGROSK_INI_FILE_EMPTY, none = BIGROSK_INI_FILE_EMPTY;
     struct bigrosk_ini_file nowhere = BIGROSK_INI_FILE_EMPTY, hg = BIGROSK_INI_FILE_EMPTY, before = BIGROSK_INI_FILE_EMPTY;
-    struct bigrosk_ini_file lone = BIGROSK_INI_FILE_EMPTY, unknown = BIGROSK_INI_FILE_EMPTY;
+    struct bigrosk_ini_file lone = BIGROSK_INI_FILE_EMPTY, unknown = BIGROSK_INI_FILE_EMPTY, commented = BIGROSK_INI_FILE_EMPTY;
     struct bigrosk_ini_read_option five = BIGROSK_INI_READ_DEFAULT;
     char value[64] = "";
     put(path, "[Service]\nExecStart=\"/bin/a\" \\t\n");
@@ -399,6 +399,13 @@ static void dialects(const char *path)
     reading.lone_lines++;
     CHECK(bigrosk_ini_file_read_by(&unknown, path, &reading) == BIGROSK_INI_UNKNOWN_OPTION && unknown.place.line == 0);
     CHECK(!lone.text.is_open && !unknown.text.is_open);
+    /* an indented comment, by a reading that has these */
+    reading.lone_lines = BIGROSK_INI_LONE_LINES_RUN_ON;
+    reading.indented_comments = 1;
+    put(path, "[a]\n  ; c\nk=v\n");
+    CHECK(bigrosk_ini_file_read_by(&commented, path, &reading) == BIGROSK_INI_OK);
+    CHECK(!strcmp(bigrosk_ini_file_string(&commented, "a", "k", value, sizeof value, ""), "v"));
+    bigrosk_ini_file_close(&commented);
     put(path, "[user]\nname = a\\\\b\n");
     CHECK(bigrosk_ini_file_open_as(&none, path, "Git") == BIGROSK_INI_NO_DIALECT && none.place.line == 0);
     CHECK(bigrosk_ini_file_save(&none) == BIGROSK_INI_NO_DIALECT && is_file(path, "[user]\nname = a\\\\b\n"));

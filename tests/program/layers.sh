@@ -66,6 +66,8 @@ in|k = a\\tb\n|k=a\\tb\n
 --indent in|  k=v|  k=v\n
 --brackets in|[[*]]\nk=v|[[*]]\nk=v\n
 --noescape --raw-backslash --policy Nothing in|p=C:\\x\\\nk=v|p=C:\\x\\\nk=v\n
+--indented-comments in|  ; c\nk=1|k=1\n
+--multiline --indented-comments in|k=1\n ; c\n 2\n|k=1\\n2\n
 --lone-lines refused in|k=1\n[a]\nx=y|k=1\n\n[a]\nx=y\n
 --lone-lines runs-on in|abc\nk=1|abc\\nk=1\n
 --crlf in|k=1\n[a]\nx=y|k=1\r\n\r\n[a]\r\nx=y\r\n

@@ -127,6 +127,8 @@ def loaded(*items):
 
 
 NO_SEPARATOR = "no separator follows the key in its line"
+INLINE = "doesn't support inline comment"
+CR_ALONE = "\\r is not followed by \\n"
 NO_ENDPOINT = "expecting \"[Some('='), Some(':')]\" but found EOF."
 
 # Each departure: the option set, the smallest text that shows it, the answer here, and the crate's.
@@ -189,10 +191,30 @@ BY_HAND = (
     ("1110001 6b3d760a20770a780a", f"err 4:1 {NO_SEPARATOR}"),
     ("1100000 6162630a6b3d760a", loaded(("abc\nk", "v"))),
     ("Basics LF 1100001 20206b3d760a", "written 6b3d760a"),
+    ("11000001 20203b20630a6b3d760a", loaded(("k", "v"))),
+    ("11000001 092320613d62", loaded()),
+    ("11010001 092320613d62", loaded()),
+    ("11000001 20205c3b613d620a", loaded((";a", "b"))),
+    ("11000001 6b3d760d2320630d6a3d770a", loaded(("k", "v"), ("j", "w"))),
+    ("11000001 6b3d760d20202320630d6a3d770a", loaded(("k", "v"), ("j", "w"))),
+    ("11100000 6b3d610a203b20630a20620a", loaded(("k", "a\n; c\nb"))),
+    ("11100001 6b3d610a203b20630a20620a", loaded(("k", "a\nb"))),
+    ("11100001 6b3d610a3b20630a20620a", loaded(("k", "a"))),
+    ("11100001 6b3d610a203b20630a0d62", f"err 3:3 {CR_ALONE}"),
+    ("11000001 5b615d203b20630a", f"err 1:6 {INLINE}"),
+    ("11000001 6b3d760a0b3b20630a", f"err 2:3 {INLINE}"),
+    ("11100001 6b3d610a20c2a03b20630a20620a", loaded(("k", "a\nb"))),
+    ("11100001 6b3d610a203b2063", loaded(("k", "a"))),
+    ("11100001 6b3d610d203b20630d0a0d0a2023205c0a2020620a", loaded(("k", "a\n\nb"))),
+    ("11000011 20203b20630a6b3d760a", loaded(("k", "v"))),
+    ("11000011 20203b20630a6b0a", f"err 3:1 {NO_SEPARATOR}"),
+    ("01000101 20205c3b6b3d760a", loaded(("\\;k", "v"))),
+    ("11001001 5b5b615d5d0d3b20630d2020232064", loaded("[a]")),
+    ("Basics LF 11000001 20203b20630a6b3d23630a", "written 6b3d23630a"),
     *(
         (line, "no question")
         for line in (
-            "", "11000", "1100 6b", "11000000 6b", "11002 6b", "110002 6b", "1100002 6b", "11000 6", "11000 6g", "11000 c3", "11000  6b", "Basics 11000 6b",
+            "", "11000", "1100 6b", "110000000 6b", "11002 6b", "110002 6b", "1100002 6b", "11000002 6b", "11000 6", "11000 6g", "11000 c3", "11000  6b", "Basics 11000 6b",
             "Basics LF 11000", "basics LF 11000 6b", "Basics CR 11000 6b", "Basics LF 1100 6b", "Basics LF 11000 6",
             "Basics LF 11000 6b ", "LF Basics 11000 6b",
         )

@@ -4,6 +4,7 @@
     compare.py texts ANSWERS CRATE BRACKETS [--written] [--less N] [--random N] [--damaged N] [--seed N]
     compare.py raw ANSWERS [--less N] [--random N] [--damaged N] [--seed N]
     compare.py lone ANSWERS [--less N] [--random N] [--damaged N] [--seed N]
+    compare.py comments ANSWERS [--less N] [--random N] [--damaged N] [--seed N]
     compare.py departures ANSWERS CRATE
     compare.py stored CRATE BRACKETS FOLDER
 
@@ -25,9 +26,9 @@ several texts of one batch give is written once for that batch. What the two loa
 isn't written. With `--less 1` the whole then takes some five minutes.
 
 `raw` loads such texts by the options with raw backslashes, which the crate lacks, and compares with the line grammar, by the
-reader in grammar.py; `lone` does so by those that refuse a line without separator, of both kinds of backslashes. They print
-the smallest texts that are answered otherwise; the status is 1 if there is one. The short texts are two characters shorter
-by default.
+reader in grammar.py; `lone` does so by those that refuse a line without separator, of both kinds of backslashes, and
+`comments` by those with indented comments, of all of these. They print the smallest texts that are answered otherwise; the
+status is 1 if there is one. The short texts are two characters shorter by default.
 
 `departures` shows the smallest text of each declared departure, with what both programs answer, and fails where that is
 not what cases.py says.
@@ -54,6 +55,7 @@ from grammar import DEPARTURES, Option, Reader
 OPTIONS = sorted((Option(*flags) for flags in itertools.product((True, False), repeat=5)), key=Option.changes)
 RAW_OPTIONS = [option._replace(raw=True) for option in OPTIONS]
 LONE_OPTIONS = [option._replace(lone=1) for option in OPTIONS + RAW_OPTIONS]
+COMMENT_OPTIONS = [option._replace(comments=True) for option in OPTIONS + RAW_OPTIONS + LONE_OPTIONS]
 
 
 class Crate(NamedTuple):
@@ -216,9 +218,14 @@ def compare_lone(arguments):
     return compare_lacked(arguments, LONE_OPTIONS, lambda digits: True)
 
 
-def compare_lacked(arguments, options, is_telling):
+def compare_comments(arguments):
+    kinds = texts.SHORT_TEXTS + texts.COMMENT_TEXTS
+    return compare_lacked(arguments, COMMENT_OPTIONS, lambda digits: "3b" in digits or "23" in digits, kinds)
+
+
+def compare_lacked(arguments, options, is_telling, kinds=texts.SHORT_TEXTS):
     sorts = {
-        "short texts": texts.short_texts(arguments.less),
+        "short texts": texts.short_texts(arguments.less, kinds),
         "random texts": texts.made(texts.random_text, arguments.random, arguments.seed),
         "settings files": map(texts.hexadecimal, texts.SETTINGS),
         "damaged settings files": texts.made(texts.damaged_settings, arguments.damaged, arguments.seed),
@@ -334,7 +341,7 @@ def main():
     command.add_argument("--written", action="store_true")
     for name, size in (("--less", 0), ("--random", 100_000), ("--damaged", 20_000), ("--seed", 1)):
         command.add_argument(name, type=int, default=size)
-    for lacked, run in (("raw", compare_raw), ("lone", compare_lone)):
+    for lacked, run in (("raw", compare_raw), ("lone", compare_lone), ("comments", compare_comments)):
         command = commands.add_parser(lacked)
         command.set_defaults(run=run)
         command.add_argument("answers")

@@ -9,6 +9,7 @@ from typing import NamedTuple
 
 BLANKS = " \t"
 LINE_ENDS = "\n\r"
+MARKS = ";#"
 WHITE = "\t\n\x0b\x0c\r \x85\xa0\u1680" + "".join(map(chr, range(0x2000, 0x200B))) + "\u2028\u2029\u202f\u205f\u3000"
 INLINE_WHITE = "".join(c for c in WHITE if c not in LINE_ENDS)
 ESCAPES = {"0": "\0", "a": "\a", "b": "\b", "t": "\t", "r": "\r", "n": "\n"}
@@ -59,9 +60,10 @@ class Option(NamedTuple):
     brackets: bool
     raw: bool = False
     lone: int = 0  # of a line without separator: 0 its key runs on, 1 the text is refused
+    comments: bool = False  # where a line starts, blanks and a comment mark begin a comment
 
     def flags(self):
-        """A digit for each; the last two, which the crate lacks, only as far as they aren't 0."""
+        """A digit for each; the last three, which the crate lacks, only as far as they aren't 0."""
         digits = "".join(str(int(flag)) for flag in self)
         return digits[:5] + digits[5:].rstrip("0")
 
@@ -158,7 +160,7 @@ class Reader:
                 self.read_pair("")
             else:
                 self.at += 1
-        elif c in ";#":
+        elif c in MARKS:
             self.read_comment()
         elif c == "[":
             self.read_header()
@@ -171,10 +173,17 @@ class Reader:
 
     def read_comment(self):
         if self.at > 0 and self.text[self.at - 1] != "\n":
+            if self.option.comments and self.text[self.at - 1] == "\r":
+                return self.skip_note()
             raise Stop(self.at + 1, "doesn't support inline comment")
         end = self.text.find("\n", self.at)
         self.at = len(self.text) if end < 0 else end + 1
         self.skip_blanks_if(BLANKS_BEHIND_COMMENT)
+
+    def skip_note(self):
+        """A comment mark and what follows it, up to a line end, which is no part of it."""
+        while self.at < len(self.text) and not self.next_is(LINE_ENDS):
+            self.at += 1
 
     def read_header(self):
         self.at += 1
@@ -199,6 +208,8 @@ class Reader:
             self.waiting = (WHITE_BEHIND_BLANK_LINE, BLANKS_BEHIND_BLANK_LINE)
         elif self.next_is("["):
             self.read_header()
+        elif self.option.comments and self.next_is(MARKS):
+            self.skip_note()
         elif self.at < len(self.text):
             self.read_indented_key(self.text[start : self.at])
 
@@ -260,7 +271,11 @@ class Reader:
             more += self.read_empty_lines()
             if not self.next_is(BLANKS):
                 break
-            more += "\n" + self.read_line(is_first=False)
+            self.skip(INLINE_WHITE)
+            if self.option.comments and self.next_is(MARKS):
+                self.skip_note()
+            else:
+                more += "\n" + self.read_line(is_first=False)
         return more
 
     def take_line_end(self):

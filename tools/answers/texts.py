@@ -26,6 +26,13 @@ SHORT_TEXTS = (
     ("k:'", ["'", '"', "\\", "x", "0", "\n", "]"], 6),
 )
 
+# And those that tell indented comments apart: at a line's front, and among the lines of a value.
+COMMENT_TEXTS = (
+    ("", [" ", ";", "\n", "\r", "k", "="], 8),
+    ("k=v", ["\n", "\r", " ", "\u00a0", "#", "w"], 8),
+    ("k=v\n ;", ["\n", "\r", " ", "\\", ";", "k", "="], 7),
+)
+
 # Pieces of random texts. The first few come oftener.
 PIECES = ["\n", "=", " ", "k", "\r\n", "\n ", "\n\t", "\\", "\\x", "\\x0041", "\\xd800", "\\x+041", "\\n", "\\\n", "\\\r\n"]
 PIECES += ["k=v\n", "k = v\n", "  k=v\n", "[s]\n", " [s]", "; c\n", "# c\n", "\n\n", "\n \n", "\r", '"', "'", '"q" ', "'q'"]
@@ -135,9 +142,9 @@ def all_texts(front, alphabet, longest):
             yield from [head + rest for rest in tails]
 
 
-def short_texts(less):
+def short_texts(less, kinds=SHORT_TEXTS):
     """The short texts in full, each kind with so many characters fewer."""
-    for front, alphabet, longest in SHORT_TEXTS:
+    for front, alphabet, longest in kinds:
         yield from all_texts(front, alphabet, longest - less)
 
 

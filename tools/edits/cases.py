@@ -10,6 +10,7 @@ MULTILINE = DEFAULT._replace(multiline=True)
 ESCAPES_OFF = DEFAULT._replace(escape=False)
 RAW_BACKSLASHES = ESCAPES_OFF._replace(raw=True)
 STRICT = DEFAULT._replace(lone=1)
+COMMENTS = DEFAULT._replace(comments=True)
 INDENT = DEFAULT._replace(indent=True)
 BASICS = Writing("Basics", "\n", "=")
 CRLF = Writing("Reserved", "\r\n", " = ")
@@ -143,6 +144,15 @@ RAW_TEXTS = ("path = C:\\temp \n", "path='C:\\temp'\n", "[a]\nj=w", "j=w\\", "pa
 RAW_LINES = ("k=v\\\nj=w", "k\\=v\\", "[a\\]\nk=v\\\r\n[b]", "k=v\\\rj\\=w\n[a\\]", "k='v\\' w \n", "k=v\\ \t\nj\\=w\\ ")
 # Texts with lines without separator, and without, where these are refused.
 STRICT_TEXTS = ("k=v\n[a]\n", "abc\nk=v\n[a]", "[a]\n  k=v\n  abc", "[a]\n\\\nk=v\n  ", "k\\\n=v\n  \n[a]j=w\\\n", "[a] k\rj=w")
+# Texts with indented comments, and with comments behind CR.
+COMMENT_TEXTS = (
+    "[a]\n  ; of k\n  k = v\n\n  ; of j\nj=w\n  # of b\n  [b]",
+    "k=v\n  ; c\n\n  w\n\n  # d\n  ; e\nj=w\n[a]\n  ; f\n\n[b]",
+    "k=v\n ; c\n  \"\"\n ; d\n \xa0; e\n\n ; f",
+    "[a]k=v\n\t; c\r\n[a]\r; d\r  # e\r\n  junk",
+    "x=1\nk=v\r; c\r[a]\nk=w\r# d\rj=w\n",
+    "[a]\n\n  ; c\r; d\n  junk",
+)
 RAW_VALUES = ["C:\\new", "C:\\new\\", "C:\\new\\\\", "\\\\\\", "'\\'", "it's\\n", "a\\\nb", "a\\\rb", "a\\ ", "\\", "\\\\"]
 VALUES = ["", " v", '"v', "'", "a\tb", "a\nb", "a\\b", "\v", "é", "\U0001f431", "#", "a=b"]
 KEYS = ["", " k", "k ", "[k", ";k", "a=b", "a:b", "\tk", "é", "k\n", "  \tk", "\xa0k"]
@@ -199,6 +209,12 @@ def plain_and_unplain():
             yield Question(call, STRICT, BASICS, name, "k", "n", text)
         yield Question("rename_section", STRICT, BASICS, "a", "", "n", text)
         yield Question("delete_section", STRICT._replace(multiline=True), BASICS, "a", "", "", text)
+    for text, option in itertools.product(COMMENT_TEXTS, (COMMENTS, COMMENTS._replace(multiline=True))):
+        for name, call in itertools.product((None, "a"), ("set", "add", "delete", "rename_key")):
+            yield Question(call, option, BASICS, name, "k", "n", text)
+        yield Question("add", option, CRLF, "b", "k", "n", text)
+        yield Question("rename_section", option, BASICS, "a", "", "n", text)
+        yield Question("delete_section", option, BASICS, "a", "", "", text)
     for value in RAW_VALUES:
         yield Question("set", ESCAPES_OFF._replace(multiline=True, quote=False), raw, None, "path", value, "path=1 \n  2\n\n")
         yield Question("set", DEFAULT, raw, None, "path", value, "path=1\n")

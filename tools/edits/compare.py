@@ -31,7 +31,7 @@ SECTION_CALLS = ["delete_section", "rename_section"]
 PIECES = ["\n", "\n", "\n", "\r", "\r\n", " ", "\t", "=", ":", "a", "k", "[a]", "[b]", "[a]\n", "k=", "a=v", "k=v\n", "\nk = w"]
 PIECES += ["\n k=v", "=v"]
 PIECES += ["\n ", "\n\n", "\n  ", "\r\n  w", '"', "'", "\"q\"", "\\", "\\\n", "\\n", "\\x", "\\x0041", "#", "\n#c\n", ";", "\x0b"]
-PIECES += ["\xa0", "]", "[", "x"]
+PIECES += ["\xa0", "]", "[", "x", "\n ;c\n"]
 IN_QUOTES = ["v", "w w", " ", "\n", "\r\n ", '"', "'", "\\", "\\\\", '\\"', "\\'", "\\\n", "\\x0041", "=", "#", '""', "'v'"]
 VALUES = ["v", "w", "", "a b", "it's", 'a"b', '"q', "'", "é", " x", "a=b", "#", "a\\b", "l\nm", "\U0001f431", "\t", "]", "\x0b"]
 VALUES += ["a\\", "a\\\\", "\\\\\\", "\\'", "\\\n", "a\\\r", "\\ "]
@@ -77,7 +77,7 @@ def random_question(chance):
     text = "".join(chance.choices(PIECES, k=chance.randrange(14)))
     if chance.random() < 0.3:
         text = quoted_pair(chance) + text
-    option = Option(*(chance.random() < p for p in (0.5, 0.5, 0.5, 0.5, 0.5, 0.3, 0.3)))
+    option = Option(*(chance.random() < p for p in (0.5, 0.5, 0.5, 0.5, 0.5, 0.3, 0.3, 0.4)))
     separator = chance.choice(SEPARATORS if chance.random() < 0.95 else UNPLAIN_SEPARATORS)
     writing = Writing(chance.choice(POLICIES), chance.choice(["\n", "\r\n"]), separator)
     name = chance.choice([None, None, "a", "a", "b", "c", "", chance.choice(NAMES)])

@@ -100,7 +100,7 @@ def is_read(text, option):
 def random_question(chance):
     """Three texts that the options read."""
     while True:
-        option = Option(*(chance.random() < p for p in (0.8, 0.8, 0.3, 0.1, 0.1, 0.4, 0.3)))
+        option = Option(*(chance.random() < p for p in (0.8, 0.8, 0.3, 0.1, 0.1, 0.4, 0.3, 0.3)))
         base = [chance.choice(MORE if chance.random() < 0.7 else LINES) for _ in range(chance.randrange(9))]
         texts = ["".join(base), "".join(changed(chance, base)), "".join(changed(chance, base))]
         if not all(is_read(text, option) for text in texts):

@@ -5,7 +5,7 @@ Nothing here is taken from the library's code. Positions are those of characters
 from dataclasses import dataclass
 from typing import NamedTuple, Optional
 
-BLANKS, LINE_ENDS = " \t", "\n\r"
+BLANKS, LINE_ENDS, MARKS = " \t", "\n\r", ";#"
 WHITE = "\t\n\x0b\x0c\r \x85\xa0\u1680" + "".join(map(chr, range(0x2000, 0x200B))) + "\u2028\u2029\u202f\u205f\u3000"
 INLINE_WHITE = WHITE.replace("\n", "").replace("\r", "")
 UNDONE = {"0": "\0", "a": "\a", "b": "\b", "t": "\t", "r": "\r", "n": "\n"}
@@ -24,9 +24,10 @@ class Option(NamedTuple):
     brackets: bool
     raw: bool = False
     lone: int = 0  # of a line without separator: 0 its key runs on, 1 the text is refused
+    comments: bool = False  # where a line starts, blanks and a comment mark begin a comment
 
     def flags(self):
-        """A digit for each, as questions have them; the last two only as far as they aren't 0."""
+        """A digit for each, as questions have them; the last three only as far as they aren't 0."""
         digits = "".join(str(int(flag)) for flag in self)
         return digits[:5] + digits[5:].rstrip("0")
 
@@ -68,8 +69,8 @@ class Stop(Exception):
 
 @dataclass
 class Element:
-    """A gap, a comment, a header, a pair or a dropped tail, from `start` to `end`. A header's `text` is its name, a pair's its
-    key.
+    """A gap, a comment, a note, a header, a pair or a dropped tail, from `start` to `end`. A header's `text` is its name, a
+    pair's its key. A note is an indented comment, or one behind CR: its line end is a gap.
 
     A pair's key ends at `key_end`, its own value stands from `lead` to `pad`, and `part` is where its first quoted part ends,
     if it begins with one. A header or a pair is open where it takes no line end behind its last line: a pair does with
@@ -125,6 +126,14 @@ class Reader:
             raise Stop("EndOfText", self.at)
         self.at += 1
         return self.text[self.at - 1]
+
+    def takes_note(self):
+        """Whether a note stands here where one may: a mark, and what follows it up to a line end. It is taken."""
+        if not (self.option.comments and self.sees(MARKS)):
+            return False
+        while self.at < len(self.text) and not self.sees(LINE_ENDS):
+            self.at += 1
+        return True
 
     def take_line_end(self):
         """LF, CR LF or CR, if one stands here."""
@@ -207,10 +216,12 @@ class Reader:
                 self.take_line_end()
                 pair.value += "\n"
                 continue
-            given, pad = self.line(False)
-            pair.value += "\n" + given
-            if given.strip("\n"):
-                pair.pad = pad
+            self.skip(INLINE_WHITE)
+            if not self.takes_note():
+                given, pad = self.line(False)
+                pair.value += "\n" + given
+                if given.strip("\n"):
+                    pair.pad = pad
             if not self.take_line_end():
                 pair.is_open = True
                 return
@@ -252,14 +263,19 @@ class Reader:
             self.skip(BLANKS)
             if self.sees(LINE_ENDS):
                 self.at += 1
+            elif self.takes_note():
+                element.kind = "note"
             elif self.at < len(self.text) and not self.sees("["):
                 self.pair(element, True)
         elif self.sees(WHITE):
             self.at += 1
-        elif self.sees(";#"):
-            if not is_column_one(self.text[:start][-1:]):
+        elif self.sees(MARKS):
+            if is_column_one(self.text[:start][-1:]):
+                element.kind, self.at = "comment", self.text.find("\n", start) + 1 or len(self.text)
+            elif starts_line(self.text[:start][-1:]) and self.takes_note():
+                element.kind = "note"
+            else:
                 raise Stop("InlineComment", start + 1)
-            element.kind, self.at = "comment", self.text.find("\n", start) + 1 or len(self.text)
         elif self.sees("["):
             element.kind, element.text, element.is_open = "header", self.header(), True
         else:

@@ -25,6 +25,7 @@ CALLS += ["comment_out", "insert_before", "insert_before", "insert_after"]
 LINES = ["k = v\n", "  k = v\n", "k=1\n", "j : 2\n", "k='q'\n", "a=\"w\"\r\n", "k=v", "\tk\t=\t1 \n", "k=", "k =  \n", "j=\\\n", "j=\\"]
 LINES += ["# c\n", "; of k\n", "#\n", "# c", "#c\r  x\n", "\n", "\n", "\r\n", "  \n", "\r", " \r", "\x0b", "\xa0\n", "  "]
 LINES += ["[a]\n", "[b]\n", "  [a]\n", "[a]", "[a] [b]\n", "[ a ]\n", "[a]k=v\n", "[b]\r", "[a]\r\n", "  [b]"]
+LINES += ["  ; i\n", "\t#n\r\n", " ;x\r", "; r", " \xa0; c\n", "k=v\n ; c\n", "k=v\n ; c\n  w\n", "k=\n\n ; c\n\n"]
 LINES += ["k=v\n  w\n", "k=v\n\n\n", "k=v\n  \"\"\n", "k=v\n \\\n\n", "  junk", "  #junk\n x", "  more\n", "\\\n", "k=\n\n  v\n \n"]
 COMMENTS = ["# c\n", "; a\n# b\n", "", "#", "# c\r\n", "#a\r  b\n", "no", "# a\nb", " # a", "\n", "# a\n\n"]
 
@@ -81,7 +82,7 @@ def random_edit(chance, page, in_row):
 def random_question(chance):
     """A text that the options read, and one edit, several, or a hundred in a row."""
     while True:
-        option = Option(*(chance.random() < p for p in (0.8, 0.8, 0.5, 0.2, 0.1, 0.4, 0.3)))
+        option = Option(*(chance.random() < p for p in (0.8, 0.8, 0.5, 0.2, 0.1, 0.4, 0.3, 0.4)))
         text = random_text(chance)
         try:
             page = Page(text, option)

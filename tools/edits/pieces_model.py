@@ -5,10 +5,8 @@ the library's code: the text is read anew for each edit, and whether a form or a
 """
 from typing import NamedTuple, Optional
 
-from model import BLANKS, INLINE_WHITE, LINE_ENDS, WHITE, Reader, Refused, escaped, is_column_one, is_plain_key
+from model import BLANKS, INLINE_WHITE, LINE_ENDS, MARKS, WHITE, Reader, Refused, escaped, is_column_one, is_plain_key
 from model import is_plain_name, is_plain_separator, is_plain_unspaced_key, is_read_back, line_end_at, starts_line
-
-MARKS = ";#"
 
 
 class Edit(NamedTuple):
@@ -73,8 +71,13 @@ class Page:
         pairs = [element for element in self.elements[start:end] if element.kind == "pair"]
         return [pair for pair in pairs if key is None or pair.text == key]
 
+    def is_idle(self, line):
+        """Whether a line behind a value is blank, or an indented comment."""
+        behind = line.lstrip(BLANKS)
+        return not behind or (self.option.comments and behind[0] in MARKS)
+
     def line_end_of(self, pair):
-        """Where the line end stands after the last line of a pair that isn't blank; None where the text ends before one."""
+        """Where the line end stands after the last line of a pair that isn't idle; None where the text ends before one."""
         text = self.text
         if not self.option.multiline:
             found = line_end_at(text, pair.end)
@@ -83,17 +86,16 @@ class Page:
         last = None
         for number, end in enumerate(ends):
             start = ends[number - 1][1] if number else pair.start
-            if number == 0 or text[start : end[0]].strip(BLANKS):
+            if number == 0 or not self.is_idle(text[start : end[0]]):
                 last = end
-        behind = text[ends[-1][1] : pair.end] if ends else text[pair.lead : pair.end]
-        return None if not ends or behind.strip(BLANKS) else last
+        return last if ends and self.is_idle(text[ends[-1][1] : pair.end]) else None
 
     def element_before(self, place):
         """The last element that ends at a place."""
         return next((element for element in self.elements if element.end == place and element.start < place), None)
 
     def comments_above(self, place):
-        """Where the comment lines begin that stand directly above a place."""
+        """Where the comment lines begin that stand directly above a place. One that is indented is none of them."""
         while (element := self.element_before(place)) and element.kind == "comment" and self.text[element.end - 1] == "\n":
             place = element.start
         return place
@@ -104,6 +106,18 @@ class Page:
             if element.kind == "comment" and element.start == place:
                 place = element.end
         return place
+
+    def blank_lines_below(self, place):
+        """Where the blanks and line ends end that stand directly below a place."""
+        while place < len(self.text) and self.text[place] in BLANKS + LINE_ENDS:
+            place += 1
+        return place
+
+    def is_above_note(self, place):
+        """Whether an indented comment follows the blank lines below a place: a multiline value would go on with it."""
+        mark = self.blank_lines_below(place)
+        notes = [element for element in self.elements if element.kind == "note" and element.start < mark < element.end]
+        return any(self.text[note.start : mark].strip(BLANKS) == "" for note in notes)
 
     def indentation(self, place):
         """Where the blanks begin that indent a header at a place."""
@@ -186,6 +200,10 @@ def pair_text(page, writing, before, key, value, indented=True):
     return (indent if indented else "") + line
 
 
+def with_line_end(line, line_end):
+    return line.rstrip(LINE_ENDS) + line_end
+
+
 def closing(page, place):
     lone = page.reader.ends_in_backslash and place == len(page.text)
     return ("\\" if page.option.escape else " ") * lone
@@ -198,6 +216,9 @@ def after_pair(page, writing, pair, before, key, value):
     line = pair_text(page, writing, before, key, value, not page.option.multiline)
     end = page.line_end_of(pair)
     if end:
+        # a comment behind CR goes up to its line's end, and one in column one through the next LF
+        if page.option.comments and page.text[slice(*end)] == "\r":
+            line = with_line_end(line, "\r")
         return page.text[: end[1]] + line + page.text[end[1] :]
     glue = closing(page, pair.end) + line_end_of(page, writing)
     return page.text[: pair.end] + glue + line + page.text[pair.end :]
@@ -224,20 +245,20 @@ def first_of_section(page, writing, bounds, key, value):
         comments = page.comments_below(0)
         empty = line_end_at(text, comments)
         places = [comments + len(empty)] * (comments > 0 and empty in ("\n", "\r\n")) + [0]
-    run = places[-1]
-    while run < gap_end and text[run] in BLANKS + LINE_ENDS:
-        run += 1
+    run = min(page.blank_lines_below(places[-1]), gap_end)
     wanted = with_pair(page, number, 0, key, value)
     dropped = page.dropped()
     for place in places + [run] * (not dropped or run <= dropped[0]):
         # a key that the text's end cuts short would go on with the new pair
-        if page.option.multiline and dropped and place == dropped[0]:
+        if page.option.multiline and (dropped and place == dropped[0] or page.is_above_note(place)):
             continue
         front = text[:place]
         last = page.element_before(place)
         is_ended = starts_line(front) and not (last and last.kind == "comment" and front[-1] != "\n")
         is_ended = is_ended and not (place == header and number)
-        new = front + ("" if is_ended else line_end_of(page, writing)) + line + text[place:]
+        follows_note = front.endswith("\r") and text[place : place + 1] in tuple(MARKS)
+        own = with_line_end(line, "\r") if follows_note else line
+        new = front + ("" if is_ended else line_end_of(page, writing)) + own + text[place:]
         if reads_as(new, page.option, wanted) and len(Page(new, page.option).dropped()) == len(dropped):
             return new
     raise Refused("NoPlace")
@@ -301,8 +322,12 @@ def delete_nth(page, name, key, number):
     if end is None:
         return front + text[pair.end :]
     follows_mark = text[end[1] : end[1] + 1] in tuple(MARKS)
-    goes = starts_line(front) and (is_column_one(front) or not follows_mark)
-    return front + text[end[1] if goes else end[0] :]
+    stays_alike = is_column_one(front) == is_column_one(text[: end[1]])
+    if starts_line(front) and (stays_alike or not follows_mark):
+        return front + text[end[1] :]
+    # among the lines of a value, CR stays as the end of a blank line
+    is_row = page.option.multiline and starts_line(front) and text[slice(*end)] == "\r"
+    return front + (" " if is_row else "") + text[end[0] :]
 
 
 def delete_from(page, name, key, kept):

@@ -116,11 +116,14 @@ def statuses():
 READ = {
     "STANDARD": "",
     "STRICT": "`--lone-lines refused`",
+    "COMMENTED": "`--indented-comments`",
     "RAW": "`--noescape`",
     "LITERAL": "`--noescape --raw-backslash`",
     "UNQUOTED": "`--noquote`",
+    "UNQUOTED_COMMENTED": "`--noquote --indented-comments`",
     "VERBATIM": "`--noescape --noquote`",
     "INDENTED": "`--noescape --noquote --multiline --raw-backslash`",
+    "INDENTED_COMMENTED": "`--noescape --noquote --multiline --raw-backslash --indented-comments`",
     "PATTERNS": "`--noescape --noquote --brackets`",
     "BRACKETED": "`--brackets`",
 }

@@ -4,10 +4,10 @@ use Rattle.std.proofs.lemmas.Str.{encodes-chars}
 use lib.Utf8.{encodes}
 use Rattle.std.proofs.lemmas.Grind.{fold-append}
 use Rattle.std.specs.Cow.{cow_str_bytes}
-use Rattle.ini_text.specs.Grammar.Elements.{Given, Header, Pair}
+use Rattle.ini_text.specs.Grammar.Elements.{Element, Given, Header, Pair}
 use Rattle.ini_text.specs.Parsing.Fronts.{front_of, IsRest}
 use Rattle.ini_text.specs.Parsing.Items.{item_of}
-use Rattle.ini_text.specs.Parsing.Trivia.{AreTrivia, SkipsTrivia}
+use Rattle.ini_text.specs.Parsing.Trivia.{AreTrivia, IsTrivia, SkipsTrivia}
 use Rattle.ini_text.specs.Errors.Messages.{HasMessage}
 use Rattle.ini_text.specs.Parsing.Parser.{AnswersItem, KeepsRefusal, Place, Refuses, StopsPast}
 use Rattle.ini_text.specs.Grammar.Texts.{Reads, Stops}
@@ -17,6 +17,7 @@ use Rattle.ini_text.specs.declared.error.ParseError.{ParseError}
 use Rattle.ini_text.specs.declared.item.Item.{Item}
 use Rattle.ini_text.specs.declared.option.ParseOption.{ParseOption}
 use Rattle.ini_text.proofs.LawLemmas.ExportedLemmas.{Reads-before, front_is}
+use Rattle.ini_text.proofs.PlainLemmas.PlainLineLemmas.{line_end_gap}
 use Rattle.ini.specs.Texts.{Text}
 use Rattle.ini.specs.Documents.{Document, with_item, with_pair}
 use Rattle.ini.specs.Loading.{IfParse, IsStopOf}
@@ -244,13 +245,22 @@ module _ {o : ParseOption} where
   AreTrivia-front {b} (AreTrivia.more {s = s} t row) =
       let x = AreTrivia-front row in (s ++ x.0, sym (append_assoc b s x.0) ∙ x.1)
 
+  IsTrivia-read : {T b s c : Text} (r : Text) → IsTrivia o b s → T ≡ b ++ (s ++ r) → Reads o T (b ++ s) [] c
+      → Reads o T b [] c
+  IsTrivia-read r (IsTrivia.element gives) at more = Reads.step at (gives r) more
+  IsTrivia-read {T} {b} {c = after} r (IsTrivia.line {s} {c} ends gives) at more =
+      let before = at ∙ ap (λ y. b ++ y) (append_assoc s (c ∷ []) r) in
+      Reads.step before (gives r)
+      (Reads.step (before ∙ sym (append_assoc b s (c ∷ r))) (Element.gap (line_end_gap c ends))
+      (subst (λ x. Reads o T x [] after) (sym (append_assoc b s (c ∷ []))) more))
+
   AreTrivia-read : {T b c : Text} (r : Text) → AreTrivia o b c → T ≡ c ++ r → Reads o T b [] c
   AreTrivia-read r AreTrivia.none whole = Reads.stay r whole
   AreTrivia-read r (AreTrivia.more {b} {s} t row) whole =
       let m = AreTrivia-front row in
       let at =
       whole ∙ ap (λ y. y ++ r) (sym m.1) ∙ append_assoc (b ++ s) m.0 r ∙ append_assoc b s (m.0 ++ r) in
-      Reads.step at (t (m.0 ++ r)) (AreTrivia-read r row whole)
+      IsTrivia-read (m.0 ++ r) t at (AreTrivia-read r row whole)
 
   pub Settles-trivia : {T rest left following : Text} {d e : Document} → Settles o T rest left d e
       → SkipsTrivia o T (front_of T left) (front_of T following) → IsRest T following

@@ -1,7 +1,7 @@
 -- How a text is read and a document written, as C says it.
 use Rattle.std.specs.Prelude.{◌≡◌, ◌==◌, if◌then◌else◌, ℕ, Bool, true, false, List, length}
 use Rattle.std.specs.Prelude.{Option, Some, None, codes, encode_utf8_all, IsTrue, ◌↔◌, ◌&&◌, nat_le}
-use Rattle.std.specs.Option.{option_map}
+use Rattle.std.specs.Option.{option_map, option_and_then}
 use Rattle.ini_text.specs.declared.option.LoneLine.{LoneLine}
 use Rattle.ini_text.specs.declared.option.LoneLine.TheVariants.{RunsOn, Refused}
 use Rattle.ini_text.specs.declared.option.ParseOption.{ParseOption}
@@ -29,6 +29,7 @@ parse_option o = record {
   enabled_preserve_key_leading_whitespace = o.keep_indentation;
   enabled_brackets_in_section_names = o.brackets;
   enabled_raw_backslash = false;
+  enabled_indented_comment = false;
   line_without_separator = RunsOn;
 }
 
@@ -36,15 +37,20 @@ parse_option o = record {
 abbrev pub lone_line_of : ℕ → Option LoneLine
 lone_line_of n = if n == 0 then Some RunsOn else if n == 1 then Some Refused else None
 
--- the options that stand there, with what becomes of a line without separator
-abbrev pub options_with : LoneLine → Reading → ParseOption
-options_with line r = record {
+-- whether indented comments are on, by a number: other numbers stand for nothing
+abbrev pub indented_comments_of : ℕ → Option Bool
+indented_comments_of n = if n == 0 then Some false else if n == 1 then Some true else None
+
+-- the options that stand there, with indented comments or not, and what becomes of a line without separator
+abbrev pub options_with : LoneLine → Bool → Reading → ParseOption
+options_with line comments r = record {
   enabled_quote = r.quotes;
   enabled_escape = r.escapes;
   enabled_indented_mutiline_value = r.multiline;
   enabled_preserve_key_leading_whitespace = r.keep_indentation;
   enabled_brackets_in_section_names = r.brackets;
   enabled_raw_backslash = r.raw_backslash;
+  enabled_indented_comment = comments;
   line_without_separator = line;
 }
 
@@ -52,12 +58,24 @@ options_with line r = record {
 abbrev pub lone_line_there : Reading → Option LoneLine
 lone_line_there r = lone_line_of (if nat_le 8 r.size then r.lone_lines else 0)
 
+-- whether indented comments are on: where the size doesn't reach the number, they are off
+abbrev pub indented_comments_there : Reading → Option Bool
+indented_comments_there r = indented_comments_of (if nat_le 9 r.size then r.indented_comments else 0)
+
+-- the options that stand there, if each number stands for one
+abbrev pub options_there : Reading → Option ParseOption
+options_there r = option_and_then
+    (λ line. option_map (λ comments. options_with line comments r) (indented_comments_there r))
+    (lone_line_there r)
+
+-- options with raw backslashes as the struct has them, off where the size doesn't reach these
+abbrev pub with_raw_backslashes : Reading → ParseOption → ParseOption
+with_raw_backslashes r o = record o { enabled_raw_backslash = nat_le 7 r.size && r.raw_backslash }
+
 -- The options by which a text is read, if each number stands for one. What the size doesn't reach has its
 -- default.
 abbrev pub reading_option : Reading → Option ParseOption
-reading_option r = option_map
-    (λ line. record (options_with line r) { enabled_raw_backslash = nat_le 7 r.size && r.raw_backslash })
-    (lone_line_there r)
+reading_option r = option_map (with_raw_backslashes r) (options_there r)
 
 -- the policy of a number
 abbrev pub policy_of : ℕ → EscapePolicy

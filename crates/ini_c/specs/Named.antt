@@ -1,13 +1,11 @@
 -- Options that a dialect's name stands for, as C gets them.
-use Rattle.std.specs.Prelude.{◌≡◌, ◌||◌, if◌then◌else◌, nat_le, ℕ, Bool, false, IsTrue, List, Some}
-use Rattle.std.specs.Option.{option_map}
+use Rattle.std.specs.Prelude.{◌≡◌, ◌&&◌, ◌||◌, if◌then◌else◌, nat_le, ℕ, Bool, false, IsTrue, List, Some}
 use Rattle.std.specs.Str.{bytes_eq}
 use Rattle.ini_text.specs.Options.WriteOptions.{line_end}
 use Rattle.ini_dialect.specs.Dialects.{Preset}
 use Rattle.ini_text.specs.declared.option.LoneLine.TheVariants.{RunsOn}
 use Rattle.ini_text.specs.declared.option.ParseOption.{ParseOption}
-use Rattle.ini_c.specs.Choices.{line_end_if, lone_line_there, options_with, parse_option, policy_of}
-use Rattle.ini_c.specs.Choices.{separator_of}
+use Rattle.ini_c.specs.Choices.{line_end_if, options_there, parse_option, policy_of, separator_of}
 use Rattle.ini_c.specs.declared.options.ReadChoice.{ReadChoice}
 use Rattle.ini_c.specs.declared.options.Reading.{Reading}
 use Rattle.ini_c.specs.declared.options.WriteChoice.{WriteChoice}
@@ -23,17 +21,22 @@ HasNumber p = IsTrue (has_number p.kv_separator)
 
 -- the options without those that came after the first five
 abbrev pub first_five : ParseOption → ParseOption
-first_five o = record o { enabled_raw_backslash = false; line_without_separator = RunsOn }
+first_five o = record o {
+  enabled_raw_backslash = false;
+  enabled_indented_comment = false;
+  line_without_separator = RunsOn;
+}
 
--- the options without one that a struct of so many bytes doesn't reach
+-- the options without those that a struct of so many bytes doesn't reach
 abbrev pub reached : ℕ → ParseOption → ParseOption
 reached size o = record o {
+  enabled_indented_comment = nat_le 9 size && o.enabled_indented_comment;
   line_without_separator = if nat_le 8 size then o.line_without_separator else RunsOn;
 }
 
 -- the struct has the options, as far as it reaches
 abbrev pub HasOptions : Reading → ParseOption → Type 0
-HasOptions r o = option_map (λ line. options_with line r) (lone_line_there r) ≡ Some (reached r.size o)
+HasOptions r o = options_there r ≡ Some (reached r.size o)
 
 -- so C is told how lines are written
 pub record TellsWriting (write : WriteChoice) (p : Preset) : Type 0 where

@@ -71,7 +71,10 @@ fn lone_line_number(line: LoneLine) -> u8
 fn tell_reading(options: ParseOption, reading: &mut Reading)
     ensures told { HasOptions reading.new options }
     ensures size { reading.new.size ≡ reading.old.size }
-    ensures beyond { nat_le 8 reading.old.size ≡ false → reading.new.lone_lines ≡ reading.old.lone_lines }
+    ensures lone_lines_stay { nat_le 8 reading.old.size ≡ false →
+        reading.new.lone_lines ≡ reading.old.lone_lines }
+    ensures indented_comments_stay { nat_le 9 reading.old.size ≡ false →
+        reading.new.indented_comments ≡ reading.old.indented_comments }
 {
     reading.quotes = options.enabled_quote;
     reading.escapes = options.enabled_escape;
@@ -81,6 +84,9 @@ fn tell_reading(options: ParseOption, reading: &mut Reading)
     reading.raw_backslash = options.enabled_raw_backslash;
     if reading.size >= 8 {
         reading.lone_lines = lone_line_number(options.line_without_separator);
+    }
+    if reading.size >= 9 {
+        reading.indented_comments = u8::from(options.enabled_indented_comment);
     }
 }
 
@@ -99,7 +105,10 @@ pub extern "C" fn bigrosk_ini_dialect_by(
     ensures reading_stays { ¬ (result ≡ ok) → reading.new ≡ reading.old }
     ensures write_stays { ¬ (result ≡ ok) → write.new ≡ write.old }
     ensures size { reading.new.size ≡ reading.old.size }
-    ensures beyond { nat_le 8 reading.old.size ≡ false → reading.new.lone_lines ≡ reading.old.lone_lines }
+    ensures lone_lines_stay { nat_le 8 reading.old.size ≡ false →
+        reading.new.lone_lines ≡ reading.old.lone_lines }
+    ensures indented_comments_stay { nat_le 9 reading.old.size ≡ false →
+        reading.new.indented_comments ≡ reading.old.indented_comments }
     ensures statuses { IsTrue (is_among result (ok ∷ absent ∷ not_utf8 ∷ [])) }
 {
     let Ok(name) = str::from_utf8(name) else {
@@ -141,6 +150,7 @@ pub extern "C" fn bigrosk_ini_dialect(
         brackets: read.brackets,
         raw_backslash: false,
         lone_lines: 0,
+        indented_comments: 0,
     };
     let status = bigrosk_ini_dialect_by(name, &mut reading, write);
     read.quotes = reading.quotes;

@@ -1,8 +1,8 @@
 //! Options as C gives them: numbers and bools. This file knows their names in `ini`.
 ghost use Rattle.std.specs.Prelude.{◌≡◌, chars};
 ghost use Rattle.ini_text.specs.Laws.Plain.{IsPlainSeparator};
-ghost use Rattle.ini_c.specs.Choices.{IsWriteOption, lone_line_there, parse_option, reading_option};
-ghost use Rattle.ini_c.specs.Choices.{separator_of};
+ghost use Rattle.ini_c.specs.Choices.{IsWriteOption, indented_comments_there, lone_line_there, parse_option};
+ghost use Rattle.ini_c.specs.Choices.{reading_option, separator_of};
 
 use ini::{EscapePolicy, LineSeparator, ParseOption, WriteOption};
 use ini_text::LoneLine;
@@ -43,6 +43,8 @@ pub struct Reading {
     pub raw_backslash: bool,
     /// What becomes of a line without separator: 0 its key runs on, 1 the text is refused; no other number.
     pub lone_lines: u8,
+    /// Whether blanks and a comment mark begin a comment where a line starts: 0 or 1; no other number.
+    pub indented_comments: u8,
 }
 
 /// How a document is written.
@@ -68,6 +70,7 @@ impl ReadChoice {
             enabled_preserve_key_leading_whitespace: self.keep_indentation,
             enabled_brackets_in_section_names: self.brackets,
             enabled_raw_backslash: false,
+            enabled_indented_comment: false,
             line_without_separator: LoneLine::RunsOn,
         }
     }
@@ -85,6 +88,7 @@ impl Reading {
             enabled_preserve_key_leading_whitespace: self.keep_indentation,
             enabled_brackets_in_section_names: self.brackets,
             enabled_raw_backslash: self.size >= 7 && self.raw_backslash,
+            enabled_indented_comment: self.indented_comments()?,
             line_without_separator: self.lone_line()?,
         })
     }
@@ -99,6 +103,20 @@ impl Reading {
         match self.lone_lines {
             0 => Some(LoneLine::RunsOn),
             1 => Some(LoneLine::Refused),
+            _ => None,
+        }
+    }
+
+    // Whether indented comments are on, if the number stands for that.
+    fn indented_comments(&self) -> Option<bool>
+        ensures { result ≡ indented_comments_there self.now }
+    {
+        if self.size < 9 {
+            return Some(false);
+        }
+        match self.indented_comments {
+            0 => Some(false),
+            1 => Some(true),
             _ => None,
         }
     }

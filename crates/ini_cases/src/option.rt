@@ -77,6 +77,10 @@ fn reading_with(read: ParseOption, word: &str) -> Option<ParseOption> {
             enabled_raw_backslash: true,
             ..read
         }),
+        "indentedcomments" => Some(ParseOption {
+            enabled_indented_comment: true,
+            ..read
+        }),
         "refusedlines" => Some(ParseOption {
             line_without_separator: LoneLine::Refused,
             ..read

@@ -8,7 +8,7 @@ use ini::{
 use ini_text::LoneLine;
 use std::alloc::{AllocError, Global};
 
-// The set of reading options that six bits choose; brackets in names are off.
+// The set of reading options that seven bits choose; brackets in names are off.
 fn reading(bits: u8) -> ParseOption {
     ParseOption {
         enabled_quote: bits & 1 != 0,
@@ -17,6 +17,7 @@ fn reading(bits: u8) -> ParseOption {
         enabled_preserve_key_leading_whitespace: bits & 8 != 0,
         enabled_brackets_in_section_names: false,
         enabled_raw_backslash: bits & 16 != 0,
+        enabled_indented_comment: bits & 64 != 0,
         line_without_separator: if bits & 32 != 0 {
             LoneLine::Refused
         } else {
@@ -53,12 +54,12 @@ fn are_equal(left: &Ini, right: &Ini) -> bool {
     others.next().is_none()
 }
 
-/// By how many of sixty-four sets of reading options the document is plain. By each of them its text is to
-/// load back as it.
+/// By how many of the 128 sets of reading options the document is plain. By each of them its text is to load
+/// back as it.
 pub fn count_plain(alloc: Global, document: &Ini, write: &WriteOption) -> Result<usize, Error> {
     let text = written(alloc, document, write.clone()?)?;
     let mut plain: usize = 0;
-    for bits in 0..64 {
+    for bits in 0..128 {
         let read = reading(bits);
         if document.is_plain(write, read) {
             let back = Ini::load_from_str_opt(alloc, text.as_str(), read)?;

@@ -24,6 +24,7 @@ fn pieces() -> &'static [&'static str] {
         "[",
         "#c",
         "\n#c\n",
+        "\n ;c\n",
         ";",
         "\\",
         "\\\n",
@@ -86,6 +87,7 @@ impl Random {
             "indented",
             "brackets",
             "rawbackslash",
+            "indentedcomments",
             "refusedlines",
             "CRLF",
         ] {

@@ -11,7 +11,7 @@ use ini_edit::{Edit, EditError};
 use std::alloc::Global;
 
 /// How many texts are edited.
-const TEXTS: u64 = 10_000;
+const TEXTS: u64 = 12_000;
 
 /// How many edits have to be made of them at least.
 const LEAST: u64 = 500;

@@ -5,3 +5,4 @@ pub mod Worked
 pub mod OneListLemmas
 pub mod MendLemmas
 pub mod LoneLineLemmas
+pub mod CommentLemmas

@@ -2,17 +2,19 @@
 use Rattle.std.proofs.Common.{◌≡◌, ◌∙◌, ℕ, Bool, true, false, List, [], ◌∷◌, ◌++◌, append-nil, refl, subst}
 use Rattle.std.proofs.Common.{ap, eqb-true, inl, inr, ne_eqb, sym}
 use Rattle.std.proofs.Math.Bool.{and-false}
-use Rattle.std.proofs.lemmas.Bool.{and_parts, cases_Bool, or_cases, or_parts}
+use Rattle.std.proofs.lemmas.Bool.{and_parts, cases_Bool, not-true, or_cases, or_parts}
 use Rattle.std.proofs.lemmas.Option.{cond_some}
 use Rattle.std.specs.Char.{is_digit}
 use Rattle.std.specs.List.{list_all}
-use Rattle.std.specs.Prelude.{◌||◌, ◌&&◌, ◌==◌}
+use Rattle.std.specs.Prelude.{◌||◌, ◌&&◌, ◌==◌, not}
 use Rattle.ini.specs.Texts.{Text}
-use Rattle.ini_text.specs.Grammar.CharacterKinds.{backslash, carriage_return, colon, equals, is_blank}
-use Rattle.ini_text.specs.Grammar.CharacterKinds.{is_line_end, line_feed, plus}
+use Rattle.ini_text.specs.Grammar.CharacterKinds.{backslash, carriage_return, colon, equals, hash}
+use Rattle.ini_text.specs.Grammar.CharacterKinds.{is_blank, is_comment_mark, is_line_end, line_feed, plus}
+use Rattle.ini_text.specs.Grammar.CharacterKinds.{semicolon}
 use Rattle.ini_text.specs.Grammar.Elements.{Element, Gap, Given}
 use Rattle.ini_text.specs.Grammar.EscapeSequences.{EscapeSequence, spelled}
 use Rattle.ini_text.specs.Grammar.Keys.{KeyFront}
+use Rattle.ini_text.specs.Grammar.Lines.{Note}
 use Rattle.ini_text.specs.Grammar.Strings.{Row, Str, is_endpoint, key_ends}
 use Rattle.ini_text.specs.Options.Backslashes.{Backslash, begins_escape, is_special}
 use Rattle.ini_text.specs.Options.ReadOptions.{backslash_of}
@@ -117,12 +119,12 @@ module _ (o : ParseOption) (refused : o.line_without_separator ≡ Refused) wher
       blanks_pass (backslash_of o) w s ind.blank ∙ refused_string str
 
 -- nothing in it is a line that is no comment
-record IsEmptyLine (s : Text) : Type 0 where
+pub record IsEmptyLine (s : Text) : Type 0 where
   pub bare : begins_bare s ≡ false
   pub later : has_later_bare_line s ≡ false
   pub dropped : drops_line s ≡ false
 
-after_blanks_empty : (w s : Text) → list_all is_blank w ≡ true → IsEmptyLine s → IsEmptyLine (w ++ s)
+pub after_blanks_empty : (w s : Text) → list_all is_blank w ≡ true → IsEmptyLine s → IsEmptyLine (w ++ s)
 after_blanks_empty [] s blank empty = empty
 after_blanks_empty (c ∷ w) s blank empty =
     let parts = and_parts (is_blank c) (list_all is_blank w) blank in
@@ -134,6 +136,17 @@ after_blanks_empty (c ∷ w) s blank empty =
       dropped = rw (parts.0, inner.stays, rest.bare, rest.later) refl;
     }
 
+-- a comment mark ends no line
+pub mark_stays : (c : ℕ) → is_comment_mark c ≡ true → is_line_end c ≡ false
+mark_stays c mark = elim (or_cases (c == semicolon) (c == hash) mark)
+    [ inl q ↦ rw (eqb-true c 0x3B q) refl | inr q ↦ rw (eqb-true c 0x23 q) refl ]
+
+line_empty : (s : Text) → list_all (λ c. not (is_line_end c)) s ≡ true → has_later_bare_line s ≡ false
+line_empty [] all = refl
+line_empty (c ∷ s) all =
+    let parts = and_parts (not (is_line_end c)) (list_all (λ c. not (is_line_end c)) s) all in
+    rw (not-true (is_line_end c) parts.0, line_empty s parts.1) refl
+
 line_end_empty : (c : ℕ) → is_line_end c ≡ true → IsEmptyLine (c ∷ [])
 line_end_empty c ends =
     let no_blank = line_end_no_blank c ends in
@@ -141,6 +154,16 @@ line_end_empty c ends =
       bare = rw (no_blank, ends) refl;
       later = rw ends refl;
       dropped = rw no_blank refl;
+    }
+
+pub note_empty : {s r : Text} → Note s r → IsEmptyLine s
+note_empty (Note.note {m} {s} mark all closes) =
+    let later = line_empty s all in
+    let stays = mark_stays m mark in
+    record {
+      bare = rw ((comment_mark-apart m mark).0, stays, mark) refl;
+      later = rw (stays, later) refl;
+      dropped = rw ((comment_mark-apart m mark).0) refl;
     }
 
 blanks_empty : (w : Text) → list_all is_blank w ≡ true → drops_line w ≡ false
@@ -163,6 +186,9 @@ pub nothing_dropped : {o : ParseOption} {b s r : Text} {items : List Given}
 nothing_dropped refused none (Element.gap g) = gap_drops_none g
 nothing_dropped refused none (Element.comment {m} s one mark all) = rw ((comment_mark-apart m mark).0) refl
 nothing_dropped refused none (Element.last_comment {m} one mark all) = rw ((comment_mark-apart m mark).0) refl
+nothing_dropped refused none (Element.indented_comment {w} {s} on ind n) =
+    (after_blanks_empty w s ind.blank (note_empty n)).dropped
+nothing_dropped refused none (Element.comment_after_cr on starts later n) = (note_empty n).dropped
 nothing_dropped refused none (Element.header off str) = cc
 nothing_dropped refused none (Element.bracketed_header on str i) = cc
 nothing_dropped refused none (Element.pair front some sep given) = cc

@@ -13,7 +13,7 @@ use Rattle.ini_text.specs.Grammar.CharacterKinds.{BeginsWith, BeginsWithNo, back
 use Rattle.ini_text.specs.Grammar.CharacterKinds.{is_comment_mark}
 use Rattle.ini_text.specs.Grammar.CharacterKinds.{is_line_end, open_bracket}
 use Rattle.ini_text.specs.Grammar.Elements.{Header, Pair}
-use Rattle.ini_text.specs.Grammar.Keys.{KeyFront, begins_indented_key, begins_key}
+use Rattle.ini_text.specs.Grammar.Keys.{KeyFront, begins_indented_key, begins_key, begins_note}
 use Rattle.ini_text.specs.Grammar.Places.{ArePlaced, Stretches, pair_source, value_source}
 use Rattle.ini_text.specs.Grammar.Strings.{Str, is_endpoint, key_ends}
 use Rattle.ini_text.specs.Inside.ElementReader.{element, key_string}
@@ -53,11 +53,14 @@ key_begins (c ∷ t) begins =
     let y = or_parts (is_whitespace c) (is_comment_mark c) x.0 in
     rw (no_white_no_blank c y.0) refl
 
-indented_begins : (t : List ℕ) → BeginsWith begins_indented_key t → BeginsWithNo is_blank t
-indented_begins [] begins = tt
-indented_begins (c ∷ t) begins =
-    let x = or_parts (is_blank c || is_line_end c) (c == open_bracket) (not-true _ begins) in
-    (or_parts (is_blank c) (is_line_end c) x.0).0
+indented_begins : (o : ParseOption) (t : List ℕ) → BeginsWith (begins_indented_key o) t
+    → BeginsWithNo is_blank t
+indented_begins o [] begins = tt
+indented_begins o (c ∷ t) begins =
+    let unnoted = is_blank c || is_line_end c || c == open_bracket in
+    let x = or_parts unnoted (begins_note o c) (not-true _ begins) in
+    let y = or_parts (is_blank c || is_line_end c) (c == open_bracket) x.0 in
+    (or_parts (is_blank c) (is_line_end c) y.0).0
 
 -- no key ends at a backslash
 no_backslash : (line : LoneLine) → is_endpoint (key_ends line) backslash ≡ false
@@ -77,7 +80,7 @@ key_read {o} {x = x} {m = m} (KeyFront.unindented {s} {v = v} begins str) =
 key_read {o} {x = x} {m = m} (KeyFront.indented {w} {s} {v = v} ind begins str) =
     let following : skipped is_blank ((w ++ s) ++ m ∷ x) ≡ s ++ m ∷ x =
     ap (skipped is_blank) (append_assoc w s (m ∷ x))
-    ∙ (run-finds is_blank w (s ++ m ∷ x) ind.blank (indented_begins (s ++ m ∷ x) begins)).1 in (
+    ∙ (run-finds is_blank w (s ++ m ∷ x) ind.blank (indented_begins o (s ++ m ∷ x) begins)).1 in (
       v,
       ap (key_string o) following ∙ key_finds o str,
     )

@@ -1,10 +1,11 @@
 -- Each trap in a small text, and the nearest text without it.
-use Rattle.std.proofs.Common.{◌≡◌, refl, true, false, [], ◌∷◌}
+use Rattle.std.proofs.Common.{◌≡◌, refl, true, false, [], ◌∷◌, ◌++◌}
 use Rattle.std.specs.Prelude.{codes}
 use Rattle.ini_text.specs.Options.ReadOptions.{default_parse_option, with_raw_backslashes, without_escapes}
 use Rattle.ini_text.specs.declared.option.ParseOption.{ParseOption}
+use Rattle.ini_check.specs.Mends.Characters.{with_value_escapes_doubled}
 use Rattle.ini_check.specs.Traps.Keys.{comment_runs_on, has_escape, has_key_escape, has_line_end, is_empty}
-use Rattle.ini_check.specs.Traps.Keys.{lower, mark_begins_key, has_equals, runs_on}
+use Rattle.ini_check.specs.Traps.Keys.{lower, mark_begins_key, has_equals, has_value_escape, runs_on}
 use Rattle.ini_check.specs.Traps.LostLines.{drops_line}
 use Rattle.ini_check.specs.Traps.Values.{has_comment_mark, has_odd_space}
 use Rattle.ini_check.specs.Warnings.{comment_warnings, inner_warnings, warning}
@@ -14,6 +15,9 @@ use Rattle.ini_check.specs.declared.warning.Trap.TheVariants.{PairInValue, TextA
 
 abbrev without_quotes : ParseOption
 without_quotes = record default_parse_option { enabled_quote = false }
+
+abbrev with_indented_comments : ParseOption
+with_indented_comments = record default_parse_option { enabled_indented_comment = true }
 
 bracket : has_line_end (codes "[server\nport=80\n[client]") ≡ true
 bracket = refl
@@ -165,8 +169,48 @@ half-raw = refl
 apostrophe : inner_warnings default_parse_option false Front [] (codes "don't") ≡ []
 apostrophe = refl
 
-odd : has_odd_space (0xA0 ∷ codes "v") ≡ true
+odd : has_odd_space default_parse_option (0xA0 ∷ codes "v") ≡ true
 odd = refl
 
-odd-not : has_odd_space (codes " \tv ") ≡ false
+odd-not : has_odd_space default_parse_option (codes " \tv ") ≡ false
 odd-not = refl
+
+-- an indented comment among a value's lines
+mark-noted : has_comment_mark with_indented_comments (codes "a\n ; c ; d\n b") ≡ false
+mark-noted = refl
+
+mark-unnoted : has_comment_mark default_parse_option (codes "a\n ; c\n b") ≡ true
+mark-unnoted = refl
+
+mark-after-note : has_comment_mark with_indented_comments (codes "a\n ; c\n b ; d") ≡ true
+mark-after-note = refl
+
+noted : inner_warnings with_indented_comments false Front [] (codes "a\n ; 'tis C:\\\n b") ≡ []
+noted = refl
+
+unnoted : inner_warnings default_parse_option false Front [] (codes "a\n ; C:\\\n b")
+    ≡ warning (codes "a\n ; C:") (codes "\\") JoinedLine ∷ []
+unnoted = refl
+
+header-after-note : inner_warnings with_indented_comments false Front [] (codes "a\n ; c\\\n [b]")
+    ≡ warning (codes "a\n ; c\\\n ") (codes "[") HeaderInValue ∷ []
+header-after-note = refl
+
+escape-noted : has_value_escape with_indented_comments (codes "a\n ; C:\\temp\n b") ≡ false
+escape-noted = refl
+
+escape-unnoted : has_value_escape default_parse_option (codes "a\n ; C:\\temp\n b") ≡ true
+escape-unnoted = refl
+
+escape-after-note : has_value_escape with_indented_comments (codes "a\n ; c\\\n C:\\temp") ≡ true
+escape-after-note = refl
+
+odd-before-note : has_odd_space with_indented_comments (codes "v" ++ 0xA0 ∷ codes "\n ; c") ≡ true
+odd-before-note = refl
+
+odd-noted : has_odd_space with_indented_comments (codes "v\n ; c" ++ 0xA0 ∷ codes "\n") ≡ false
+odd-noted = refl
+
+doubled-noted : with_value_escapes_doubled with_indented_comments Front (codes "C:\\temp\n ; C:\\temp")
+    ≡ codes "C:\\\\temp\n ; C:\\temp"
+doubled-noted = refl

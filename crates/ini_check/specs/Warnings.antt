@@ -15,7 +15,7 @@ use Rattle.ini_text.specs.declared.write.policy.EscapePolicy.TheVariants.{Basics
 use Rattle.ini.specs.Texts.{Text, is_text}
 use Rattle.ini.specs.Properties.{Pairs}
 use Rattle.ini_check.specs.Traps.Keys.{begins_like_comment, colon_separates, comment_runs_on, has_escape}
-use Rattle.ini_check.specs.Traps.Keys.{has_key_escape, is_unplain}
+use Rattle.ini_check.specs.Traps.Keys.{has_key_escape, has_value_escape, is_unplain}
 use Rattle.ini_check.specs.Traps.Keys.{has_line_end, is_empty, is_repeated, lower, mark_begins_key, runs_on}
 use Rattle.ini_check.specs.Traps.LexicalStates.{next_state}
 use Rattle.ini_check.specs.Traps.Lines.{goes_on_with_header, goes_on_with_pair, is_list, joins_lines}
@@ -70,9 +70,9 @@ separator_trap quotes key separator source =
 -- the traps of a pair's value as a whole, by what stands after the separator
 abbrev pub value_traps : ParseOption → Text → List (Bool × Trap)
 value_traps o source =
-    (has_escape o.enabled_escape false (value_of source), traps.Escape)
+    (has_value_escape o (value_of source), traps.Escape)
     ∷ (has_comment_mark o (value_of source), traps.MarkInValue)
-    ∷ (has_odd_space source, traps.OddSpace)
+    ∷ (has_odd_space o source, traps.OddSpace)
     ∷ []
 
 -- the traps of a header

@@ -1,8 +1,8 @@
-//! Where a character of a raw value stands: in quotes, after them, in the plain part, or after a backslash that
-//! takes it along.
+//! Where a character of a raw value stands: in quotes, after them, in the plain part, after a backslash that
+//! takes it along, or in an indented comment.
 ghost use Rattle.std.specs.Prelude.{◌≡◌};
-ghost use Rattle.ini_check.specs.Traps.LexicalStates.{after_outside, after_quoted, after_white, is_outside};
-ghost use Rattle.ini_check.specs.Traps.LexicalStates.{may_open, next_state};
+ghost use Rattle.ini_check.specs.Traps.LexicalStates.{after_outside, after_quoted, after_white, is_escaped};
+ghost use Rattle.ini_check.specs.Traps.LexicalStates.{is_noted, is_outside, may_open, next_state};
 
 use crate::trap::quotes::is_quote_mark;
 use ini_text::{ParseOption, is_line_end};
@@ -26,6 +26,8 @@ pub(crate) enum LexicalState {
     Plain,
     /// The same, after such a backslash.
     PlainEscape,
+    /// In an indented comment among the value's lines.
+    Note,
 }
 
 impl LexicalState {
@@ -39,14 +41,38 @@ impl LexicalState {
         )
     }
 
-    /// Whether it is neither in quotes nor after such a backslash.
+    /// Whether it is neither in quotes nor in a comment, nor after such a backslash.
     pub(crate) fn is_outside(self) -> bool
         ensures { result ≡ is_outside self }
     {
         !matches!(
             self,
-            LexicalState::Quoted(_) | LexicalState::QuotedEscape(_) | LexicalState::PlainEscape
+            LexicalState::Quoted(_)
+                | LexicalState::QuotedEscape(_)
+                | LexicalState::PlainEscape
+                | LexicalState::Note
         )
+    }
+
+    /// Whether it is after such a backslash.
+    pub(crate) fn is_escaped(self) -> bool
+        ensures { result ≡ is_escaped self }
+    {
+        matches!(
+            self,
+            LexicalState::QuotedEscape(_) | LexicalState::PlainEscape
+        )
+    }
+
+    /// Whether the character is part of a comment, or ends its line.
+    pub(crate) fn is_noted(self, read: ParseOption, c: char) -> bool
+        ensures { result ≡ is_noted read self c }
+    {
+        match self {
+            LexicalState::Note => true,
+            LexicalState::LineFront => read.begins_note(c),
+            _ => false,
+        }
     }
 
     /// The state after a character.
@@ -62,6 +88,7 @@ impl LexicalState {
             LexicalState::AfterQuote => after_outside(read, LexicalState::AfterQuote, c),
             LexicalState::Trailing => after_outside(read, LexicalState::Trailing, c),
             LexicalState::Plain => after_outside(read, LexicalState::Plain, c),
+            LexicalState::Note => after_outside(read, LexicalState::Note, c),
         }
     }
 
@@ -83,6 +110,8 @@ fn after_outside(read: ParseOption, state: LexicalState, c: char) -> LexicalStat
 {
     if is_line_end(c) {
         LexicalState::LineFront
+    } else if state.is_noted(read, c) {
+        LexicalState::Note
     } else if read.begins_escape(c) {
         LexicalState::PlainEscape
     } else if read.enabled_quote && state.may_open() && is_quote_mark(c) {

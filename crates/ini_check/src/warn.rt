@@ -14,7 +14,7 @@ use crate::position::Position;
 use crate::seen::Known;
 use crate::trap::keys::{
     begins_like_comment, colon_separates, comment_runs_on, has_escape, has_key_escape,
-    has_line_end, is_empty, is_unplain, mark_begins_key, runs_on,
+    has_line_end, has_value_escape, is_empty, is_unplain, mark_begins_key, runs_on,
 };
 use crate::trap::lines::is_list;
 use crate::trap::lost_lines::{begins_with_mark, drops_line};
@@ -232,8 +232,8 @@ fn value_traps(source: &str, read: ParseOption) -> [(bool, Trap); 3]
 {
     let value = value_of(source);
     [
-        (has_escape(read.enabled_escape, false, value), Trap::Escape),
+        (has_value_escape(read, value), Trap::Escape),
         (has_comment_mark(read, value), Trap::MarkInValue),
-        (has_odd_space(source), Trap::OddSpace),
+        (has_odd_space(read, source), Trap::OddSpace),
     ]
 }

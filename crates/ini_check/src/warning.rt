@@ -22,8 +22,8 @@ pub enum Trap {
     /// A line without a separator runs on into the next one: a line end stands in the key's source, also
     /// after a backslash; there alone where such lines are refused. At the key: `one⏎two = 2`.
     RunsOn,
-    /// The same where after blanks a comment mark begins the key. At the key: `  ; note⏎k = v`. Mend: the
-    /// blanks before comments that stand in the key go.
+    /// The same where after blanks a comment mark begins the key, as it does where indented comments are off.
+    /// At the key: `  ; note⏎k = v`. Mend: the blanks before comments that stand in the key go.
     CommentRunsOn,
     /// The text ends in indented text without a separator, which gives nothing, with a line in it that is
     /// no comment. At the text: `a=1⏎  port 80`.
@@ -50,8 +50,8 @@ pub enum Trap {
     /// An earlier pair of the section has a key that differs in the case of ASCII letters alone. At the
     /// later key: `Port=1⏎port=2`.
     KeyCase,
-    /// After blanks a comment mark begins a key, on one line. At the key: `  #k = v`. Mend: the blanks
-    /// before comments that stand in the key go.
+    /// Where indented comments are off, after blanks a comment mark begins a key, on one line. At the key:
+    /// `  #k = v`. Mend: the blanks before comments that stand in the key go.
     MarkBeginsKey,
     /// A colon separates a pair, and `=` follows on its line: no white space stands after the colon, or
     /// some before the `=`. At the colon: `12:30 = job`.
@@ -64,8 +64,8 @@ pub enum Trap {
     EscapeInKey,
     /// The same in a value; `\]` is one there too. At the value: `path = C:\temp`. Mend: the same.
     Escape,
-    /// Outside quotes a comment mark stands in a value after white space; or `;` begins the value, or `#`
-    /// with white space or nothing after it. At the value: `k = v ; note`.
+    /// Outside quotes and comments a mark stands in a value after white space; or `;` begins the value, or
+    /// `#` with white space or nothing after it. At the value: `k = v ; note`.
     MarkInValue,
     /// Text stands after a quoted part of a value, is no other and no note, and is part of the value. At
     /// the text: `k="a"b`.

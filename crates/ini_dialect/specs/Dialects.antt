@@ -59,6 +59,10 @@ standard = default_parse_option
 abbrev pub strict : ParseOption
 strict = record standard { line_without_separator = Refused }
 
+-- comments may be indented
+abbrev pub commented : ParseOption
+commented = record standard { enabled_indented_comment = true }
+
 -- no escapes; before a line's end a backslash joins lines all the same
 abbrev pub raw : ParseOption
 raw = without_escapes
@@ -71,6 +75,10 @@ literal = with_raw_backslashes
 abbrev pub unquoted : ParseOption
 unquoted = record standard { enabled_quote = false }
 
+-- the same, and comments may be indented
+abbrev pub unquoted_commented : ParseOption
+unquoted_commented = record unquoted { enabled_indented_comment = true }
+
 -- no quotes and no escapes
 abbrev pub verbatim : ParseOption
 verbatim = record raw { enabled_quote = false }
@@ -82,6 +90,10 @@ patterns = record verbatim { enabled_brackets_in_section_names = true }
 -- no quotes, a backslash as any other character, and values of several lines
 abbrev pub indented : ParseOption
 indented = record literal { enabled_quote = false; enabled_indented_mutiline_value = true }
+
+-- the same, and comments may be indented
+abbrev pub indented_commented : ParseOption
+indented_commented = record indented { enabled_indented_comment = true }
 
 -- brackets in names
 abbrev pub bracketed : ParseOption
@@ -109,10 +121,10 @@ crate_preset = preset standard Basics (codes "=") first
 abbrev pub presets : List (List ℕ × Preset)
 presets =
     (codes "crate", crate_preset)
-    ∷ (codes "git", preset standard Basics (codes " = ") last_any_case)
+    ∷ (codes "git", preset commented Basics (codes " = ") last_any_case)
     ∷ (codes "systemd", preset verbatim Nothing (codes "=") last)
-    ∷ (codes "desktop", preset unquoted Basics (codes "=") last)
-    ∷ (codes "python", preset indented Nothing (codes " = ") last_any_case)
+    ∷ (codes "desktop", preset unquoted_commented Basics (codes "=") last)
+    ∷ (codes "python", preset indented_commented Nothing (codes " = ") last_any_case)
     ∷ (codes "php", preset standard Nothing (codes " = ") last)
     ∷ (codes "mysql", preset literal Basics (codes "=") last)
     ∷ (codes "samba", preset raw Nothing (codes " = ") last_any_case)
@@ -126,8 +138,8 @@ presets =
     ∷ (codes "qt", preset standard Basics (codes "=") last)
     ∷ (codes "hg", preset literal Nothing (codes " = ") last)
     ∷ (codes "pulseaudio", preset standard Nothing (codes " = ") last)
-    ∷ (codes "odbc", preset standard Nothing (codes " = ") first_any_case)
-    ∷ (codes "freetds", preset standard Nothing (codes " = ") last_any_case)
+    ∷ (codes "odbc", preset commented Nothing (codes " = ") first_any_case)
+    ∷ (codes "freetds", preset commented Nothing (codes " = ") last_any_case)
     ∷ (codes "sssd", preset raw Nothing (codes " = ") last)
     ∷ (codes "openssl", preset standard Basics (codes " = ") last)
     ∷ (codes "uwsgi", preset standard Nothing (codes " = ") last)

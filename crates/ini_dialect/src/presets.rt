@@ -59,12 +59,19 @@ const STANDARD: ParseOption = ParseOption {
     enabled_preserve_key_leading_whitespace: false,
     enabled_brackets_in_section_names: false,
     enabled_raw_backslash: false,
+    enabled_indented_comment: false,
     line_without_separator: LoneLine::RunsOn,
 };
 
 // A line without separator is refused.
 const STRICT: ParseOption = ParseOption {
     line_without_separator: LoneLine::Refused,
+    ..STANDARD
+};
+
+// Comments may be indented.
+const COMMENTED: ParseOption = ParseOption {
+    enabled_indented_comment: true,
     ..STANDARD
 };
 
@@ -86,6 +93,12 @@ const UNQUOTED: ParseOption = ParseOption {
     ..STANDARD
 };
 
+// The same, and comments may be indented.
+const UNQUOTED_COMMENTED: ParseOption = ParseOption {
+    enabled_indented_comment: true,
+    ..UNQUOTED
+};
+
 // No quotes and no escapes.
 const VERBATIM: ParseOption = ParseOption {
     enabled_quote: false,
@@ -103,6 +116,12 @@ const INDENTED: ParseOption = ParseOption {
     enabled_quote: false,
     enabled_indented_mutiline_value: true,
     ..LITERAL
+};
+
+// The same, and comments may be indented.
+const INDENTED_COMMENTED: ParseOption = ParseOption {
+    enabled_indented_comment: true,
+    ..INDENTED
 };
 
 // Brackets in names.
@@ -176,7 +195,7 @@ static DIALECTS: [NamedDialect; 26] = [
     ),
     preset!(
         "git",
-        STANDARD,
+        COMMENTED,
         Basics,
         " = ",
         LAST_ANY_CASE,
@@ -192,7 +211,7 @@ static DIALECTS: [NamedDialect; 26] = [
     ),
     preset!(
         "desktop",
-        UNQUOTED,
+        UNQUOTED_COMMENTED,
         Basics,
         "=",
         LAST,
@@ -200,7 +219,7 @@ static DIALECTS: [NamedDialect; 26] = [
     ),
     preset!(
         "python",
-        INDENTED,
+        INDENTED_COMMENTED,
         Nothing,
         " = ",
         LAST_ANY_CASE,
@@ -264,7 +283,7 @@ static DIALECTS: [NamedDialect; 26] = [
     ),
     preset!(
         "odbc",
-        STANDARD,
+        COMMENTED,
         Nothing,
         " = ",
         FIRST_ANY_CASE,
@@ -272,7 +291,7 @@ static DIALECTS: [NamedDialect; 26] = [
     ),
     preset!(
         "freetds",
-        STANDARD,
+        COMMENTED,
         Nothing,
         " = ",
         LAST_ANY_CASE,

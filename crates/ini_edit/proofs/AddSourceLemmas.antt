@@ -14,7 +14,8 @@ use Rattle.ini.specs.Texts.{Text}
 use Rattle.ini_edit.specs.Inside.SourceEnds.{IsFound, IsNewPair, IsNoPlaceOrMemory, IsPlaceAt, made_pair}
 use Rattle.ini_edit.specs.Inside.SourceEnds.{style_at}
 use Rattle.ini_edit.specs.Inside.Spans.{AreSections}
-use Rattle.ini_edit.specs.SourceEditsAdd.{GapPlace, Maker, first_place, pair_put_first, pair_put_last}
+use Rattle.ini_edit.specs.SourceEditsAdd.{GapPlace, Maker, end_at, first_place, pair_put_first}
+use Rattle.ini_edit.specs.SourceEditsAdd.{pair_put_last}
 use Rattle.ini_edit.specs.SourceEditsAdded.{IsAddedIn, RefusesAdding, added, added_at, added_new, made}
 use Rattle.ini_edit.specs.SourceEditsAdded.{new_line_end, style_after}
 use Rattle.ini_edit.specs.SourceEdits.{with_pairs}
@@ -42,7 +43,7 @@ same_last o end {make} {other} is_last s [] same = by (first_place o (is_none s.
     by None = refl
     by (Some q) =
         ap (λ p. Some (with_after (q.before ++ (if q.starts then [] else end)) (with_pairs s (p ∷ []))))
-        (same true (end ++ q.lines) q.after)
+        (same true (end_at end q ++ q.lines) q.after)
 same_last o end is_last s (p ∷ ps) same = ap Some (same_made o end s (last_place p ps) same)
 
 -- a list with its place's index last has nothing after the place

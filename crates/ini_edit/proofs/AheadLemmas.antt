@@ -19,12 +19,13 @@ use Rattle.ini_text.specs.Grammar.Keys.{KeyFront, begins_key}
 use Rattle.ini_text.specs.Grammar.Elements.{Given, Header, Element}
 use Rattle.ini_text.specs.Grammar.Texts.{Reads}
 use Rattle.ini_text.proofs.GrammarLemmas.KindLemmas.{line_end_no_blank}
-use Rattle.ini_text.proofs.LawLemmas.OneAheadLemmas.{Alike, Element-alike, EndedLine-before, KeyFront-alike}
+use Rattle.ini_text.proofs.LawLemmas.OneAheadLemmas.{Alike, CommentLine-before, Element-alike}
+use Rattle.ini_text.proofs.LawLemmas.OneAheadLemmas.{EndedLine-before, GoesOn-before, KeyFront-alike}
 use Rattle.ini_text.proofs.LawLemmas.OneAheadLemmas.{Reads-front, Str-alike}
 use Rattle.ini_text.proofs.PlainLemmas.PlainLineLemmas.{column_one_after}
 use Rattle.ini_text.proofs.PlainLemmas.PlainTrimLemmas.{line_end_is_white}
 use Rattle.ini_edit.specs.Places.{Follows}
-use Rattle.ini_edit.proofs.QuietLemmas.{IsHeader, Quiet, Shape, as_quiet, free, shape}
+use Rattle.ini_edit.proofs.QuietLemmas.{IsHeader, Quiet, Shape, as_quiet, free, note_ahead, shape}
 use Rattle.ini_edit.proofs.ValueLemmas.{closes_line_end, line_closes}
 
 -- What stands after the front c: no line end; and a bracket in column one alone, since blanks before one
@@ -81,6 +82,7 @@ quiet_before {b = b} x f (Quiet.before_header {w = w} i) = elim f.bracket [
   | inr one ↦ absurd (blank_no_column b w i.some i.blank one)
 ]
 quiet_before x f (Quiet.at_end tail) = absurd (y_some f refl)
+quiet_before {y = y} x f (Quiet.at_line_end on front noted) = note_ahead y noted f.some
 
 pub nothing_before : {o : ParseOption} {b s y : List ℕ} {gives : List Given} (x : List ℕ)
     → FollowsFront (b ++ s) y → gives ≡ [] → Element o b s y gives → Element o b s x gives
@@ -104,11 +106,15 @@ module _ {o : ParseOption} {x : List ℕ} (follows : Follows o x) where
         MoreLines.done (follows.no_blank on) (follows.no_line_end on)
     MoreLines-before some (MoreLines.empty_lf m) = MoreLines.empty_lf (MoreLines-before some m)
     MoreLines-before some (MoreLines.empty_cr_lf m) = MoreLines.empty_cr_lf (MoreLines-before some m)
-    MoreLines-before some (MoreLines.continued {t = t} b lead ln le m) =
+    MoreLines-before some (MoreLines.continued {l = l} {t = t} goes ln le m) =
         let n = EndedLine-before (LineEnd-before t x _ (follows.no_line_end on) le)
-        (record { lead = lead; line = ln; end = le }) in
-        MoreLines.continued b n.lead n.line n.end (MoreLines-before some m)
-    MoreLines-before some (MoreLines.last b lead ln) = absurd (some refl)
+        (record { lead = goes.lead; line = ln; end = le }) in
+        MoreLines.continued (GoesOn-before l (t ++ x) le goes) n.line n.end (MoreLines-before some m)
+    MoreLines-before some (MoreLines.last goes ln) = absurd (some refl)
+    MoreLines-before some (MoreLines.comment {t = t} line le m) =
+        MoreLines.comment (CommentLine-before (t ++ x) le line)
+        (LineEnd-before t x _ (follows.no_line_end on) le) (MoreLines-before some m)
+    MoreLines-before some (MoreLines.last_comment line) = absurd (some refl)
 
   -- a multiline value that something follows
   pub Value-before : {s y v : List ℕ} → o.enabled_indented_mutiline_value ≡ true → y ≢ [] → Value o s y v
@@ -201,8 +207,10 @@ pub more_follows : {o : ParseOption} {t r v : List ℕ} → MoreLines o t r v �
 more_follows (MoreLines.done n m) = record { no_blank = λ _. n; no_line_end = λ _. m }
 more_follows (MoreLines.empty_lf m) = more_follows m
 more_follows (MoreLines.empty_cr_lf m) = more_follows m
-more_follows (MoreLines.continued b lead ln le m) = more_follows m
-more_follows (MoreLines.last b lead ln) = record { no_blank = λ _. tt; no_line_end = λ _. tt }
+more_follows (MoreLines.continued goes ln le m) = more_follows m
+more_follows (MoreLines.last goes ln) = record { no_blank = λ _. tt; no_line_end = λ _. tt }
+more_follows (MoreLines.comment line le m) = more_follows m
+more_follows (MoreLines.last_comment line) = record { no_blank = λ _. tt; no_line_end = λ _. tt }
 
 pub value_follows : {o : ParseOption} {s r v : List ℕ} → o.enabled_indented_mutiline_value ≡ true
     → Value o s r v → Follows o r

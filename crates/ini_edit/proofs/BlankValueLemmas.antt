@@ -6,12 +6,12 @@ use Rattle.std.proofs.lemmas.Bool.{not_from_false}
 use Rattle.std.proofs.lemmas.Bool.{or_from, or_left, or_parts, or_right}
 use Rattle.std.specs.List.{list_all}
 use Rattle.ini_text.specs.Grammar.CharacterKinds.{BeginsWith, BeginsWithNo, carriage_return, is_blank}
-use Rattle.ini_text.specs.Grammar.CharacterKinds.{is_inline_white, is_line_end, is_line_feed}
+use Rattle.ini_text.specs.Grammar.CharacterKinds.{is_comment_mark, is_inline_white, is_line_end, is_line_feed}
 use Rattle.ini_text.specs.Grammar.CharacterKinds.{line_feed}
 use Rattle.ini_text.specs.Grammar.Lines.{BeginsPlain, Line, Quoted}
 use Rattle.ini_text.specs.Grammar.Positions.{last_or}
 use Rattle.ini_text.specs.Grammar.Strings.{Closes, Row, Str, plain_ends}
-use Rattle.ini_text.specs.Grammar.Values.{LineEnd, MoreLines}
+use Rattle.ini_text.specs.Grammar.Values.{GoesOn, LineEnd, MoreLines}
 use Rattle.ini_text.specs.Grammar.WhiteSpace.{Lead}
 use Rattle.ini_text.specs.Inside.PlainTests.{begins}
 use Rattle.ini_text.specs.declared.option.ParseOption.{ParseOption}
@@ -54,6 +54,11 @@ no_inline LineEnd.lf y = refl
 no_inline LineEnd.cr_lf y = refl
 no_inline (LineEnd.cr n) y = refl
 
+no_comment : {e x : Text} → LineEnd e x → (y : Text) → BeginsWithNo is_comment_mark (e ++ y)
+no_comment LineEnd.lf y = refl
+no_comment LineEnd.cr_lf y = refl
+no_comment (LineEnd.cr n) y = refl
+
 module _ {o : ParseOption} where
   feed_more : {t x : Text} → AreBlank o t x → AreBlank o (line_feed ∷ t) x
   feed_more b = record { value = line_feed ∷ b.value; are = MoreLines.empty_lf b.are; all = b.all }
@@ -70,11 +75,16 @@ module _ {o : ParseOption} where
         ends = no_inline end
             (t ++ x);
       } in
+      let goes : GoesOn o w (e ++ (t ++ x)) = record {
+        begins = some;
+        lead = lead;
+        text = λ on. no_comment end (t ++ x);
+      } in
       let line : Line o false [] (e ++ (t ++ x)) [] =
       Line.line Quoted.none (no_mark o end (t ++ x)) (Str.closed Row.none (closes end (t ++ x))) in
       record {
         value = line_feed ∷ b.value;
-        are = MoreLines.continued {l = []} some lead line end b.are;
+        are = MoreLines.continued {l = []} goes line end b.are;
         all = b.all;
       }
 
@@ -82,7 +92,8 @@ module _ {o : ParseOption} where
   last_line w some all =
       let lead : Lead w [] = record { white = all_inline w all; ends = tt } in
       let line : Line o false [] [] [] = Line.line Quoted.none (λ on. tt) (Str.closed Row.none refl) in
-      record { value = line_feed ∷ []; are = MoreLines.last {l = []} some lead line; all = refl }
+      let goes : GoesOn o w [] = record { begins = some; lead = lead; text = λ on. tt } in
+      record { value = line_feed ∷ []; are = MoreLines.last {l = []} goes line; all = refl }
 
 -- the lines end with a line end, and what follows begins no line of a value; or nothing follows
 abbrev pub EndBefore : (last : ℕ) → (lines x : Text) → Type 0

@@ -1,7 +1,7 @@
 -- The characters of words in the code.
 use Rattle.std.proofs.Common.{◌≡◌, [], ◌∷◌, refl}
 use Rattle.std.specs.Str.{chars}
-use Rattle.ini_text.specs.Grammar.CharacterKinds.{backslash, space}
+use Rattle.ini_text.specs.Grammar.CharacterKinds.{backslash, carriage_return, space}
 
 pub chars-none : chars [] ≡ []
 unfolding chars
@@ -14,3 +14,7 @@ chars-backslash = refl
 pub chars-space : chars (32 ∷ []) ≡ space ∷ []
 unfolding chars
 chars-space = refl
+
+pub chars-return : chars (13 ∷ []) ≡ carriage_return ∷ []
+unfolding chars
+chars-return = refl

@@ -13,7 +13,7 @@ use Rattle.ini_text.specs.declared.option.ParseOption.{ParseOption}
 use Rattle.ini.specs.Texts.{Text}
 use Rattle.ini_edit.specs.Endings.{Ending, ending, ending_from, next_ending}
 use Rattle.ini_edit.proofs.EndedLemmas.{line_end-some-after}
-use Rattle.ini_edit.proofs.EndingLemmas.{ending-lead, ending-line, ending-white}
+use Rattle.ini_edit.proofs.EndingLemmas.{ending-lead, ending-line, ending-white, ending_from-append}
 use Rattle.ini_edit.proofs.ValueLemmas.{IsSourceOf}
 
 -- the ends of texts that take nothing that follows
@@ -21,30 +21,38 @@ data IsOpen : Ending → Type 0 where
   inside : IsOpen Ending.inside
   line : IsOpen Ending.line
 
--- after a line end
-after_end : (o : ParseOption) {e y : Text} (t : Text) → LineEnd e y
+-- after a line end, however the line before it ends
+after_end : (o : ParseOption) {e y : Text} (f : Ending) (t : Text) → LineEnd e y
     → ((f : Ending) → IsOpen f → ending_from o f t ≡ Ending.inside)
-    → ending_from o Ending.inside (e ++ t) ≡ Ending.inside
-after_end o t LineEnd.lf rest = rest Ending.line IsOpen.line
-after_end o t LineEnd.cr_lf rest = rest Ending.line IsOpen.line
-after_end o t (LineEnd.cr n) rest = rest Ending.inside IsOpen.inside
+    → ending_from o f (e ++ t) ≡ Ending.inside
+after_end o Ending.inside t LineEnd.lf rest = rest Ending.line IsOpen.line
+after_end o Ending.line t LineEnd.lf rest = rest Ending.line IsOpen.line
+after_end o Ending.escape t LineEnd.lf rest = rest Ending.inside IsOpen.inside
+after_end o Ending.inside t LineEnd.cr_lf rest = rest Ending.line IsOpen.line
+after_end o Ending.line t LineEnd.cr_lf rest = rest Ending.line IsOpen.line
+after_end o Ending.escape t LineEnd.cr_lf rest = rest Ending.line IsOpen.line
+after_end o Ending.inside t (LineEnd.cr n) rest = rest Ending.inside IsOpen.inside
+after_end o Ending.line t (LineEnd.cr n) rest = rest Ending.inside IsOpen.inside
+after_end o Ending.escape t (LineEnd.cr n) rest = rest Ending.inside IsOpen.inside
 
 module _ {o : ParseOption} where
   last_ends : {t r : Text} → r ≢ [] → LastLine o t r → (e : Ending) → IsOpen e
       → ending_from o e t ≡ Ending.inside
-  last_ends some (LastLine.last {w} {l} b lead ln _) e is =
-      ap (λ z. ending_from o e (w ++ z)) (sym (append-nil l)) ∙ ending-lead o e w (l ++ []) b lead.white
-      ∙ ending-line [] some ln
+  last_ends some (LastLine.last {w} {l} goes ln _) e is =
+      ap (λ z. ending_from o e (w ++ z)) (sym (append-nil l))
+      ∙ ending-lead o e w (l ++ []) goes.begins goes.lead.white ∙ ending-line [] some ln
   last_ends some (LastLine.empty_lf m) Ending.inside is = last_ends some m Ending.line IsOpen.line
   last_ends some (LastLine.empty_lf m) Ending.line is = last_ends some m Ending.line IsOpen.line
   last_ends some (LastLine.empty_lf m) Ending.escape is = elim is [ ]
   last_ends some (LastLine.empty_cr_lf m) Ending.inside is = last_ends some m Ending.line IsOpen.line
   last_ends some (LastLine.empty_cr_lf m) Ending.line is = last_ends some m Ending.line IsOpen.line
   last_ends some (LastLine.empty_cr_lf m) Ending.escape is = elim is [ ]
-  last_ends some (LastLine.continued {w} {l} {e = x} {t} {r} b lead ln le m) e is =
-      ending-lead o e w (l ++ (x ++ t)) b lead.white
+  last_ends some (LastLine.continued {w} {l} {e = x} {t} {r} goes ln le m) e is =
+      ending-lead o e w (l ++ (x ++ t)) goes.begins goes.lead.white
       ∙ ending-line (x ++ t) (line_end-some-after (t ++ r) (t ++ r) le) ln
-      ∙ after_end o t le (last_ends some m)
+      ∙ after_end o Ending.inside t le (last_ends some m)
+  last_ends some (LastLine.comment {s} {e = x} {t} noted le m) e is =
+      ending_from-append o e s (x ++ t) ∙ after_end o (ending_from o e s) t le (last_ends some m)
 
   -- a value's own lines that something follows
   pub own_ends : {l r : Text} → r ≢ [] → OwnLines o l r → ending_from o Ending.inside l ≡ Ending.inside
@@ -52,7 +60,7 @@ module _ {o : ParseOption} where
       ap (ending_from o Ending.inside) (sym (append-nil l)) ∙ ending-line [] some ln
   own_ends some (OwnLines.more {l} {e} {t} {r} ln le m) =
       ending-line (e ++ t) (line_end-some-after (t ++ r) (t ++ r) le) ln
-      ∙ after_end o t le (last_ends some m)
+      ∙ after_end o Ending.inside t le (last_ends some m)
 
 -- a text ends so where a line starts before it too
 pub escape_inside : (o : ParseOption) (t : Text) → ending o t ≡ Ending.escape

@@ -4,19 +4,20 @@ use Rattle.std.proofs.Common.{◌≡◌, ◌≢◌, ◌∙◌, ℕ, Bool, true, 
 use Rattle.std.proofs.Common.{[], ◌∷◌, ◌++◌, ap, append_assoc, append-nil, refl, subst, sym}
 use Rattle.std.proofs.lemmas.Bool.{and_parts, cond-false}
 use Rattle.std.specs.List.{list_all}
-use Rattle.ini_text.specs.Grammar.CharacterKinds.{backslash, is_inline_white, space}
+use Rattle.ini_text.specs.Grammar.CharacterKinds.{backslash, is_inline_white, space, BeginsWithNo}
 use Rattle.ini_text.specs.Grammar.Places.{LastLine, OwnLines, Stretches, TrailingLines}
 use Rattle.ini_text.specs.Grammar.Strings.{Closes, plain_ends}
 use Rattle.ini_text.specs.Grammar.Values.{LineEnd, MoreLines, Value}
 use Rattle.ini_text.specs.Options.WriteOptions.{line_end}
 use Rattle.ini_text.specs.declared.option.ParseOption.{ParseOption}
 use Rattle.ini_text.specs.declared.write.option.LineSeparator.{LineSeparator}
-use Rattle.ini_text.proofs.LawLemmas.OneAheadLemmas.{Alike, Alike-some, EndedLine-before, Line-alike}
+use Rattle.ini_text.proofs.LawLemmas.OneAheadLemmas.{Alike, Alike-some, CommentLine-before}
+use Rattle.ini_text.proofs.LawLemmas.OneAheadLemmas.{EndedLine-before, GoesOn-before, Line-alike}
 use Rattle.ini_text.proofs.LawLemmas.OneAheadLemmas.{LineEnd-alike}
 use Rattle.ini_text.proofs.PlainLemmas.PlainPairLemmas.{line_end-is}
 use Rattle.ini_text.proofs.ReaderLemmas.ValueReaderLemmas.{line_end-some}
 use Rattle.ini.specs.Texts.{Text}
-use Rattle.ini_edit.specs.Endings.{Closing, Ending, ending, ending_from, next_ending}
+use Rattle.ini_edit.specs.Endings.{Closing, Ending, ending, ending_from}
 use Rattle.ini_edit.specs.Inside.Spans.{IsPair}
 use Rattle.ini_edit.specs.Places.{Follows}
 use Rattle.ini_edit.specs.SourceEditsAdd.{closed_value, is_escape}
@@ -24,16 +25,12 @@ use Rattle.ini_edit.specs.SourceLines.{is_empty}
 use Rattle.ini_edit.specs.Sources.{PairPiece}
 use Rattle.ini_edit.proofs.EndedLemmas.{line_end-some-after}
 use Rattle.ini_edit.proofs.EndingLemmas.{ending-after, ending-lead, ending-line, ending-white}
-use Rattle.ini_edit.proofs.EndingLemmas.{inline_inner}
-use Rattle.ini_edit.proofs.GluedLemmas.{closing_after, lead_glued, line_glued, line_value_glued}
-use Rattle.ini_edit.proofs.GluedLemmas.{lines_glued}
+use Rattle.ini_edit.proofs.EndingLemmas.{ending_from-append, inline_inner}
+use Rattle.ini_edit.proofs.GluedLemmas.{closing_after, closing_end, goes_on_glued, line_glued}
+use Rattle.ini_edit.proofs.GluedLemmas.{line_value_glued}
+use Rattle.ini_edit.proofs.LinesGluedLemmas.{lines_glued}
 use Rattle.ini_edit.proofs.InsertedLemmas.{line_end-closes}
 use Rattle.ini_edit.proofs.OwnBeforeLemmas.{last_length}
-
-pub ending_from-append : (o : ParseOption) (e : Ending) (x y : Text)
-    → ending_from o e (x ++ y) ≡ ending_from o (ending_from o e x) y
-ending_from-append o e [] y = refl
-ending_from-append o e (c ∷ x) y = ending_from-append o (next_ending o e c) x y
 
 -- after a line end
 closing_line : {o : ParseOption} {e y c : Text} (t : Text) → LineEnd e y
@@ -46,24 +43,34 @@ closing_line t (LineEnd.cr n) k = closing_after t k
 module _ {o : ParseOption} {c : Text} (y : Text) (closes : Closes plain_ends y) where
   last_glued : {t r : Text} → LastLine o t r → Closing o (ending_from o Ending.line t) c
       → LastLine o (t ++ c) y
-  last_glued (LastLine.last {w} {l} {r} b lead ln some) k =
+  last_glued (LastLine.last {w} {l} {r} goes ln some) k =
       let following : Closing o (ending_from o Ending.inside l) c =
-      subst (λ z. Closing o z c) (ending-lead o Ending.line w l b lead.white) k in
+      subst (λ z. Closing o z c) (ending-lead o Ending.line w l goes.begins goes.lead.white) k in
       subst (λ s. LastLine o s y) (sym (append_assoc w l c))
-      (LastLine.last b (lead_glued y closes l r lead following) (line_glued y closes ln following) some)
+      (LastLine.last (goes_on_glued y closes l r goes following) (line_glued y closes ln following) some)
   last_glued (LastLine.empty_lf m) k = LastLine.empty_lf (last_glued m k)
   last_glued (LastLine.empty_cr_lf m) k = LastLine.empty_cr_lf (last_glued m k)
-  last_glued (LastLine.continued {w} {l} {e} {t} {r} b lead ln end m) k =
+  last_glued (LastLine.continued {w} {l} {e} {t} {r} goes ln end m) k =
       let following : Closing o (ending_from o Ending.inside (e ++ t)) c =
       subst (λ z. Closing o z c)
-      (ending-lead o Ending.line w (l ++ (e ++ t)) b lead.white
+      (ending-lead o Ending.line w (l ++ (e ++ t)) goes.begins goes.lead.white
       ∙ ending-line (e ++ t) (line_end-some-after (t ++ r) (t ++ r) end) ln) k in
       let alike : Alike (t ++ r) ((t ++ c) ++ y) =
       subst (Alike (t ++ r)) (sym (append_assoc t c y)) (Alike-some t r (c ++ y) (last_length m)) in
-      let n = EndedLine-before (LineEnd-alike alike end) (record { lead = lead; line = ln; end = end }) in
+      let n =
+      EndedLine-before (LineEnd-alike alike end) (record { lead = goes.lead; line = ln; end = end }) in
       let seam : w ++ (l ++ (e ++ (t ++ c))) ≡ (w ++ (l ++ (e ++ t))) ++ c = simp append_assoc in
       subst (λ s. LastLine o s y) seam
-      (LastLine.continued b n.lead n.line n.end (last_glued m (closing_line t end following)))
+      (LastLine.continued (GoesOn-before l ((t ++ c) ++ y) end goes) n.line n.end
+      (last_glued m (closing_line t end following)))
+  last_glued (LastLine.comment {s} {e} {t} {r} line end m) k =
+      let following : Closing o (ending_from o Ending.inside (e ++ t)) c = closing_end s t end k in
+      let alike : Alike (t ++ r) ((t ++ c) ++ y) =
+      subst (Alike (t ++ r)) (sym (append_assoc t c y)) (Alike-some t r (c ++ y) (last_length m)) in
+      let seam : s ++ (e ++ (t ++ c)) ≡ (s ++ (e ++ t)) ++ c = simp append_assoc in
+      subst (λ s. LastLine o s y) seam
+      (LastLine.comment (CommentLine-before ((t ++ c) ++ y) end line) (LineEnd-alike alike end)
+      (last_glued m (closing_line t end following)))
 
   pub own_glued : {s r : Text} → OwnLines o s r → Closing o (ending_from o Ending.inside s) c
       → OwnLines o (s ++ c) y
@@ -173,6 +180,11 @@ stays_open o p some =
     at true false z h = refl
     at false y z h = refl
 
+starts_closed : (o : ParseOption) (raw : Text) → BeginsWithNo is_inline_white raw
+    → BeginsWithNo is_inline_white (raw ++ closing_of o (ending o raw))
+starts_closed o [] h = tt
+starts_closed o (c ∷ raw) h = h
+
 -- what closes a value stands before white space as after it
 closing_moved : (o : ParseOption) (e : Ending) (pad : Text) → (e ≡ Ending.escape → pad ≡ [])
     → pad ++ closing_of o e ≡ closing_of o e ++ pad
@@ -229,6 +241,7 @@ module _ {o : ParseOption} {c : ℕ} {p : Stretches} {key value r : Text} (is : 
         ∙ ap (λ z. p.space_before ++ z) (append_assoc (p.raw_value ++ k) p.space_after (line_end sep)))
         (lines_glued sep follows on k given ends);
     white_before = is.white_before;
+    starts = starts_closed o p.raw_value is.starts;
     white_after = is.white_after;
     are_trailing = subst (λ t. TrailingLines o t x) (append-nil (line_end sep))
         (TrailingLines.lines on (line_end-is sep x)
@@ -250,6 +263,7 @@ module _ {o : ParseOption} {c : ℕ} {p : Stretches} {key value r : Text} (is : 
         (sym (ap (λ t. p.space_after ++ t) none ∙ append-nil p.space_after)))
         (line_value_glued y closes off given ends);
     white_before = is.white_before;
+    starts = starts_closed o p.raw_value is.starts;
     white_after = is.white_after;
     are_trailing = subst (λ t. TrailingLines o t y) (sym none) (TrailingLines.line off closes);
     own_lines = subst (λ t. OwnLines o ((p.raw_value ++ k) ++ p.space_after) (t ++ y)) (sym none)

@@ -7,7 +7,6 @@ use Rattle.ini_text.specs.Grammar.CharacterKinds.{is_blank, is_comment_mark}
 use Rattle.ini_text.specs.Grammar.CharacterKinds.{BeginsWith}
 use Rattle.ini_text.specs.Grammar.Elements.{Given, Element}
 use Rattle.ini_text.specs.Grammar.Keys.{Indentation, KeyFront, begins_key}
-use Rattle.ini_text.specs.Grammar.Positions.{is_column_one}
 use Rattle.ini_text.specs.Inside.PlainTests.{begins}
 use Rattle.ini_text.specs.declared.option.ParseOption.{ParseOption}
 use Rattle.ini_text.proofs.GrammarLemmas.KindLemmas.{comment_mark-apart}
@@ -46,21 +45,21 @@ pub begins_front : (test : ℕ → Bool) (s r : Text) → BeginsWith test s → 
 begins_front test [] r h = absurd (false≢true (sym h))
 begins_front test (c ∷ s) r h = h
 
-front_comment : {b s r : Text} → QuietFront b s r → BeginsWith is_comment_mark (s ++ r)
-    → IsComment b s r []
+front_comment : {o : ParseOption} {b s r : Text} → QuietFront o b s r → BeginsWith is_comment_mark (s ++ r)
+    → IsComment o b s r []
 front_comment {r = r} (QuietFront.blanks {w = w} t i) m =
     no_indent (t ++ r) i (subst (BeginsWith is_comment_mark) (append_assoc w t r) m)
 front_comment (QuietFront.white {c = c} q n) m =
     absurd (both_ways (is_whitespace c) (comment_mark-apart c m).1 q)
-front_comment (QuietFront.comment one mark is) m = is
+front_comment (QuietFront.comment starts mark is) m = is
 
 module _ {o : ParseOption} {b : Text} where
   pub is_comment : {s r : Text} {gives : List Given} → BeginsWith is_comment_mark (s ++ r)
-      → Element o b s r gives → IsComment b s r gives
+      → Element o b s r gives → IsComment o b s r gives
   is_comment m e = at (shape e) m
     where
       at : {s r : Text} {gives : List Given} → Shape o b s r gives → BeginsWith is_comment_mark (s ++ r)
-          → IsComment b s r gives
+          → IsComment o b s r gives
       at (Shape.quiet q) m = front_comment (quiet_front q) m
       at (Shape.header (IsHeader.plain off str)) m = absurd (false≢true m)
       at (Shape.header (IsHeader.bracketed on str i)) m = absurd (false≢true m)
@@ -69,17 +68,8 @@ module _ {o : ParseOption} {b : Text} where
 
   pub marked_comment : {s r : Text} {gives : List Given} → BeginsWith is_comment_mark s
       → Element o b s r gives
-      → IsComment b s r gives
+      → IsComment o b s r gives
   marked_comment {s} {r} m element = is_comment (begins_front is_comment_mark s r m) element
-
-  pub comment_column : {s r : Text} {gives : List Given} → BeginsWith is_comment_mark (s ++ r)
-      → Element o b s r gives
-      → is_column_one b ≡ true
-  comment_column m element = at (is_comment m element)
-    where
-      at : {s r : Text} {gives : List Given} → IsComment b s r gives → is_column_one b ≡ true
-      at (IsComment.whole s one mark all) = one
-      at (IsComment.last one mark all) = one
 
   -- an element that gives an item is none
   pub item_no_comment : {s r : Text} {item : Given} → Element o b s r (item ∷ [])
@@ -88,6 +78,7 @@ module _ {o : ParseOption} {b : Text} where
       false_from_ne_true (begins is_comment_mark s) (λ h.
       let no : item ∷ [] ≡ [] = at (marked_comment (begins_with is_comment_mark s h) element) in cc)
     where
-      at : {s r : Text} {gives : List Given} → IsComment b s r gives → gives ≡ []
+      at : {s r : Text} {gives : List Given} → IsComment o b s r gives → gives ≡ []
       at (IsComment.whole s one mark all) = refl
       at (IsComment.last one mark all) = refl
+      at (IsComment.after_cr on starts late remark) = refl

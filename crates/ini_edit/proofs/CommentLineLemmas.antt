@@ -146,6 +146,7 @@ module _ (o : ParseOption) (on : o.enabled_indented_mutiline_value ≡ true) (ys
         gives = subst (λ t. Value o t (m ∷ ((lines ++ []) ++ following)) value) (longer_value e p)
             (value_lengthened on line.are line.all some is.gives);
         white_before = is.white_before;
+        starts = is.starts;
         white_after = is.white_after;
         are_trailing = trailing_lengthened on line.are line.all some is.are_trailing;
         own_lines = subst (OwnLines o (p.raw_value ++ p.space_after))
@@ -181,10 +182,10 @@ module _ (o : ParseOption) (on : o.enabled_indented_mutiline_value ≡ true) (ys
           (AreInPlace.more (IsSpan.is_pair (longer f is))
           (AreInPlace.more (IsSpan.is_gap (comments_gap (m ∷ lines) column are)) AreInPlace.none))
           (keys_alike p.key p.separator (value_source p) (value_source new) [] ((m ∷ lines) ++ []) following)
-          (subst (λ t. Agree (last_or last t ∷ [])
+          (subst (λ t. Agree o (last_or last t ∷ [])
           (last_or last (pair_source new ++ ((m ∷ lines) ++ [])) ∷ [])
           (joined span_source rest)) (sym (append-nil (pair_source p)))
-          (subst (Agree (last_or last (pair_source p) ∷ [])
+          (subst (Agree o (last_or last (pair_source p) ∷ [])
           (last_or last (pair_source new ++ ((m ∷ lines) ++ [])) ∷ []))
           (sym (pair_then q (joined span_source zs)))
           (key_agrees (KeyFront-alike Alike.same next.key_front) ends)))

@@ -1,40 +1,34 @@
 -- A pair of a text in pieces made comments: each of its lines after a mark, up to its line end.
-use Rattle.std.proofs.Common.{◌≡◌, ◌≢◌, ◌∙◌, ◌==◌, ◌&&◌, ◌||◌, ℕ, Bool, true, false, not, [], ◌∷◌}
+use Rattle.std.proofs.Common.{◌≡◌, ◌≢◌, ◌∙◌, ◌==◌, ◌&&◌, ℕ, Bool, true, false, not, [], ◌∷◌}
 use Rattle.std.proofs.Common.{◌++◌, ap, append_assoc, append-nil, eqb-true, if◌then◌else◌, inl, inr, refl}
-use Rattle.std.proofs.Common.{subst, sym, arith, length, length-append}
-use Rattle.std.proofs.lemmas.Bool.{and_parts, both_ways, false≢true, or_cases}
-use Rattle.std.specs.List.{list_all}
+use Rattle.std.proofs.Common.{subst, sym}
+use Rattle.std.proofs.lemmas.Bool.{both_ways, false≢true, or_cases}
 use Rattle.ini_text.specs.Grammar.CharacterKinds.{BeginsWithNo, carriage_return, is_line_end}
 use Rattle.ini_text.specs.Grammar.CharacterKinds.{is_line_feed, line_feed, semicolon, space}
 use Rattle.ini_text.specs.Grammar.Places.{Stretches, TrailingLines, pair_source}
 use Rattle.ini_text.specs.Grammar.Positions.{last_or}
 use Rattle.ini_text.specs.Grammar.Strings.{Closes, plain_ends}
 use Rattle.ini_text.specs.Grammar.Values.{LineEnd}
-use Rattle.ini_text.specs.Inside.PlainTests.{begins}
 use Rattle.ini_text.specs.Laws.PieceLaws.{Agree}
-use Rattle.ini_text.specs.Options.Backslashes.{begins_escape}
-use Rattle.ini_text.specs.Options.ReadOptions.{backslash_of}
 use Rattle.ini_text.specs.Parsing.Fronts.{front_of}
 use Rattle.ini_text.specs.declared.option.ParseOption.{ParseOption}
 use Rattle.ini_text.proofs.LawLemmas.PieceLemmas.{last_or-append}
 use Rattle.ini_text.proofs.StringLemmas.FrontLemmas.{front_is}
 use Rattle.ini.specs.Texts.{Text, is_text}
-use Rattle.ini_edit.specs.Endings.{Ending}
 use Rattle.ini_edit.specs.Inside.Spans.{IsGap, IsPair}
 use Rattle.ini_edit.specs.SourceEditsComments.{marked, pair_line, pair_lines}
 use Rattle.ini_edit.specs.SourceEditsDelete.{gap_after, line_end_after, lines_after}
-use Rattle.ini_edit.specs.SourceLines.{after_line_end, blank_lines_at_end, blank_lines_from}
-use Rattle.ini_edit.specs.SourceLines.{ends_in_line, is_line, is_line_from, line_end_at_end, next_line_end}
-use Rattle.ini_edit.specs.SourceLines.{is_blank_or_line_end}
+use Rattle.ini_edit.specs.SourceLines.{LinePlace, after_line_end, ends_in_line, line_end_at_end}
+use Rattle.ini_edit.specs.SourceLines.{quiet_lines_at_end}
 use Rattle.ini_edit.specs.Sources.{PairPiece}
 use Rattle.ini_edit.proofs.AheadLemmas.{value_closes}
-use Rattle.ini_edit.proofs.BlankLineLemmas.{blank_all, line_last, lines_end, trailing_blank, trailing_ends}
+use Rattle.ini_edit.proofs.BlankLineLemmas.{line_last, trailing_ends}
 use Rattle.ini_edit.proofs.CommentLineLemmas.{longer_pair}
 use Rattle.ini_edit.proofs.CommentRowLemmas.{AreRows, IsNewLine, ends_row, marked_gap}
-use Rattle.ini_edit.proofs.DeletedLinesLemmas.{IsLineEnd, end_is, end_last, own_of}
-use Rattle.ini_edit.proofs.GapLemmas.{EndsThere, gap_cut, gap_join, white_gap}
-use Rattle.ini_edit.proofs.SourceLineLemmas.{blank_lines_at_end-rest, line_end_at_end-rest, rest_le}
-use Rattle.ini_edit.proofs.SourceLineLemmas.{blank_lines_from-rest}
+use Rattle.ini_edit.proofs.DeletedLinesLemmas.{IsLineEnd, end_is, end_last, none_unended, own_of}
+use Rattle.ini_edit.proofs.DeletedLinesLemmas.{quiet_after}
+use Rattle.ini_edit.proofs.GapLemmas.{gap_cut, gap_join}
+use Rattle.ini_edit.proofs.SourceLineLemmas.{line_end_at_end-rest, quiet_lines_at_end-rest}
 use Rattle.ini_edit.proofs.SourceSetLemmas.{before_nothing, last_agrees}
 use Rattle.ini_edit.proofs.ValueLemmas.{closes_line_end}
 
@@ -55,7 +49,7 @@ new_line_last c IsNewLine.cr_lf = refl
 -- The comments are a gap where column one begins, and what follows is read as before.
 pub record IsOut (o : ParseOption) (d : ℕ) (p : Stretches) (b following C : Text) : Type 0 where
   pub is : IsGap o d C (following ++ [])
-  pub agrees : Agree (last_or (last_or d (pair_source p)) b ∷ []) (last_or d C ∷ []) following
+  pub agrees : Agree o (last_or (last_or d (pair_source p)) b ∷ []) (last_or d C ∷ []) following
 
 pub commented_is : {o : ParseOption} {d : ℕ} {p : Stretches} {b ls rest : Text} (following : Text)
     → is_line_feed d ≡ true → CommentedOut o p b (following ++ []) ls rest
@@ -81,7 +75,7 @@ commented_is {o} {d} {p} {b} {ls} following one (CommentedOut.to_end none whole)
     let nothing : following ≡ [] = sym (append-nil following) ∙ none in
     record {
       is = subst (λ r. IsGap o d (comment_of ls []) r) (sym none) (marked_gap ls one AreRows.to_end);
-      agrees = subst (Agree (last_or (last_or d (pair_source p)) b ∷ []) (last_or d (comment_of ls []) ∷ []))
+      agrees = subst (Agree o (last_or (last_or d (pair_source p)) b ∷ []) (last_or d (comment_of ls []) ∷ []))
           (sym nothing) before_nothing;
     }
 
@@ -133,108 +127,33 @@ gap_ends (c ∷ b) r closes none apart =
           (after_return b r) apart
     ]
 
--- where blank lines begin a line starts
-own_ends : (o : ParseOption) (e : Ending) (t own : Text) → blank_lines_from o e t ≢ []
-    → own ++ blank_lines_from o e t ≡ t
-    → is_line_from o e own ≡ true
-own_ends o e [] own some whole = absurd (some refl)
-own_ends o e (c ∷ cs) own some whole =
-    by (is_line e && list_all is_blank_or_line_end (c ∷ cs)) refl some whole
-    (own_ends o (next_line_end o e c cs) cs)
-  where
-    later : Text
-    later = blank_lines_from o (next_line_end o e c cs) cs
-
-    none : (own : Text) → own ++ c ∷ cs ≡ c ∷ cs → own ≡ []
-    none [] h = refl
-    none (x ∷ own) h = absurd (omega (arith, ap length h, length-append own (c ∷ cs)))
-
-    -- the walk over a front sees what follows its last character alone
-    same : (own : Text) → own ++ later ≡ cs → is_line_from o (next_line_end o e c cs) own ≡ true
-        → is_line_from o (next_line_end o e c own) own ≡ true
-    same (x ∷ own) whole ends =
-        at e (subst (λ t. is_line_from o (next_line_end o e c t) (x ∷ own) ≡ true) (sym whole) ends)
-      where
-        at : (e : Ending) → is_line_from o (next_line_end o e c (x ∷ (own ++ later))) (x ∷ own) ≡ true
-            → is_line_from o (next_line_end o e c (x ∷ own)) (x ∷ own) ≡ true
-        at Ending.escape h = h
-        at Ending.inside h = h
-        at Ending.line h = h
-    same [] whole ends = at e ends
-      where
-        more : (x y z w : Bool)
-            → is_line (if x || (y && not z) then Ending.line
-            else (if w then Ending.escape else (if x then Ending.line else Ending.inside))) ≡ true
-            → is_line (if x || (y && true) then Ending.line
-            else (if w then Ending.escape else (if x then Ending.line else Ending.inside))) ≡ true
-        more true y z w h = refl
-        more false true z w h = refl
-        more false false z w h = h
-
-        at : (e : Ending) → is_line (next_line_end o e c cs) ≡ true → is_line (next_line_end o e c []) ≡ true
-        at Ending.escape h = h
-        at Ending.inside h =
-            more (is_line_feed c) (c == carriage_return) (begins is_line_feed cs)
-            (begins_escape (backslash_of o) c) h
-        at Ending.line h =
-            more (is_line_feed c) (c == carriage_return) (begins is_line_feed cs)
-            (begins_escape (backslash_of o) c) h
-
-    by : (b : Bool) → (is_line e && list_all is_blank_or_line_end (c ∷ cs)) ≡ b
-        → (if b then c ∷ cs else later) ≢ [] → own ++ (if b then c ∷ cs else later) ≡ c ∷ cs
-        → ((own : Text) → later ≢ [] → own ++ later ≡ cs
-        → is_line_from o (next_line_end o e c cs) own ≡ true)
-        → is_line_from o e own ≡ true
-    by true is some whole further =
-        subst (λ t. is_line_from o e t ≡ true) (sym (none own whole))
-        (and_parts (is_line e) (list_all is_blank_or_line_end (c ∷ cs)) is).0
-    by false is some whole further = at own whole
-      where
-        at : (own : Text) → own ++ later ≡ c ∷ cs → is_line_from o e own ≡ true
-        at [] whole =
-            absurd (omega (
-              arith,
-              ap length whole,
-              rest_le cs later
-                  (blank_lines_from-rest o (next_line_end o e c cs) cs),
-            ))
-        at (x ∷ own) whole =
-            let first : x ≡ c = cc in
-            let rest : own ++ later ≡ cs = cc in
-            subst (λ x. is_line_from o (next_line_end o e x own) own ≡ true) (sym first)
-            (same own rest (further own some rest))
-
 -- the line end of lines after a value: the text ends without one
 abbrev end_of_lines : (o : ParseOption) → Text → Text
 end_of_lines o own = if not (ends_in_line o own) then [] else line_end_at_end own
 
 -- the line end at the end of lines that one ends
 data LinesEnd (o : ParseOption) (t r : Text) : Text → Type 0 where
-  nothing : blank_lines_at_end o t ≡ [] → r ≡ [] → LinesEnd o t r []
+  nothing : quiet_lines_at_end o t ≡ [] → r ≡ [] → LinesEnd o t r []
   line_end : {e : Text} → front_of (own_of o t) e ++ e ≡ own_of o t → IsNewLine e → LinesEnd o t r e
 
 module _ {o : ParseOption} (on : o.enabled_indented_mutiline_value ≡ true) {t r : Text}
     (trailing : TrailingLines o t r) where
-  own_whole : own_of o t ++ blank_lines_at_end o t ≡ t
-  own_whole = blank_lines_at_end-rest o t
+  own_whole : own_of o t ++ quiet_lines_at_end o t ≡ t
+  own_whole = quiet_lines_at_end-rest o t
 
   -- nothing follows lines that no line end ends
-  unended : ends_in_line o (own_of o t) ≡ false → (blank_lines_at_end o t ≡ []) × (r ≡ [])
-  unended off = at (blank_lines_at_end o t) refl
+  unended : ends_in_line o (own_of o t) ≡ false → (quiet_lines_at_end o t ≡ []) × (r ≡ [])
+  unended off =
+      let none = none_unended on [] r trailing line_feed off in
+      (none, nothing_after r trailing none)
     where
-      nothing_after : (r : Text) → TrailingLines o t r → blank_lines_at_end o t ≡ [] → r ≡ []
+      nothing_after : (r : Text) → TrailingLines o t r → quiet_lines_at_end o t ≡ [] → r ≡ []
       nothing_after [] trailing none = refl
       nothing_after (c ∷ r) trailing none =
           let all : own_of o t ≡ t = sym (append-nil (own_of o t)) ∙ ap (λ x. own_of o t ++ x) (sym none)
           ∙ own_whole in
           absurd (both_ways (ends_in_line o (own_of o t)) off
           (ap (ends_in_line o) all ∙ trailing_ends (λ h. let no : c ∷ r ≡ [] = h in cc) on trailing))
-
-      at : (x : Text) → blank_lines_at_end o t ≡ x → (blank_lines_at_end o t ≡ []) × (r ≡ [])
-      at [] is = (is, nothing_after r trailing is)
-      at (c ∷ x) is =
-          absurd (both_ways (ends_in_line o (own_of o t)) off
-          (own_ends o Ending.inside t (own_of o t) (λ h. let no : c ∷ x ≡ [] = sym is ∙ h in cc) own_whole))
 
   -- the line end there is written as one, but for a CR alone
   ended : ends_in_line o (own_of o t) ≡ true
@@ -247,7 +166,7 @@ module _ {o : ParseOption} (on : o.enabled_indented_mutiline_value ≡ true) {t 
       some none =
           let there : own_of o t ≢ [] = λ h. false≢true (subst (λ x. ends_in_line o x ≡ true) h ends) in
           let is_end : is_line_end (last_or space (own_of o t)) ≡ true =
-          line_last o Ending.inside space (own_of o t) (λ h. absurd (false≢true h)) ends in
+          line_last o LinePlace.within space (own_of o t) (λ h. absurd (false≢true h)) ends in
           let last : space ≡ last_or space (own_of o t) =
           sym (ap (last_or space) none) ∙ end_last space space (own_of o t) there is_end in
           false≢true (subst (λ c. is_line_end c ≡ true) (sym last) is_end)
@@ -269,15 +188,9 @@ module _ {o : ParseOption} (on : o.enabled_indented_mutiline_value ≡ true) {t 
       at true is apart = ended is apart
       at false is apart = let none = unended is in LinesEnd.nothing none.0 none.1
 
-  -- the blank lines are a gap
-  blank_gap : {c : ℕ} → IsGap o c (blank_lines_at_end o t) r
-  blank_gap = white_gap (blank_lines_at_end o t) (blank_all o Ending.inside t) (at r trailing)
-    where
-      at : (r : Text) → TrailingLines o t r → EndsThere r (last_or line_feed (blank_lines_at_end o t))
-      at [] trailing = EndsThere.text refl
-      at (c ∷ r) trailing =
-          EndsThere.line (line_last o Ending.line line_feed (blank_lines_at_end o t) (λ _. refl)
-          (lines_end (λ h. let no : c ∷ r ≡ [] = h in cc) (trailing_blank on trailing).are))
+  -- the quiet lines are a gap
+  quiet_lines_gap : {c : ℕ} → is_line_end c ≡ true → IsGap o c (quiet_lines_at_end o t) r
+  quiet_lines_gap starts = quiet_after on [] r trailing line_feed starts
 
 -- a pair up to its trailing lines, and these
 line_then : (p : Stretches) → pair_line p ++ p.trailing_lines ≡ pair_source p
@@ -293,7 +206,7 @@ no_trailing {o} off (TrailingLines.lines on end more all) =
 -- the parts of what follows a pair's value, where values are multiline, and where they are in one line
 module _ (o : ParseOption) (on : Bool) (p : PairPiece) where
   abbrev lines_of : Text
-  lines_of = if on then blank_lines_at_end o p.stretches.trailing_lines else after_line_end p.after
+  lines_of = if on then quiet_lines_at_end o p.stretches.trailing_lines else after_line_end p.after
 
   abbrev gap_part : Text
   gap_part = if on then p.after else []
@@ -354,12 +267,12 @@ pair_commented {o} {d} p r is g none apart =
             cut IsNewLine.cr_lf g = gap_cut (LineEnd.cr_lf {r = []}) g
 
     many_lines : {e : Text} → o.enabled_indented_mutiline_value ≡ true → LinesEnd o t (b ++ r) e
-        → Made (pair_line p.stretches ++ front_of (own_of o t) e) (e ++ (blank_lines_at_end o t ++ b))
+        → Made (pair_line p.stretches ++ front_of (own_of o t) e) (e ++ (quiet_lines_at_end o t ++ b))
     many_lines on (LinesEnd.nothing empty last) =
         let parts = no_parts b r last in
         let own : own_of o t ≡ t =
         sym (append-nil (own_of o t)) ∙ ap (λ x. own_of o t ++ x) (sym empty)
-        ∙ blank_lines_at_end-rest o t in
+        ∙ quiet_lines_at_end-rest o t in
         let front : front_of (own_of o t) [] ≡ t =
         front_is (own_of o t) [] (own_of o t) (append-nil (own_of o t))
         ∙ own in
@@ -374,10 +287,10 @@ pair_commented {o} {d} p r is g none apart =
         no_parts [] r h = (refl, h)
         no_parts (c ∷ b) r h = absurd (let no : c ∷ (b ++ r) ≡ [] = h in cc)
     many_lines on (LinesEnd.line_end {e} whole end) =
-        let lines = blank_lines_at_end o t in
+        let lines = quiet_lines_at_end o t in
         let own = front_of (own_of o t) e in
         let trailing : own ++ (e ++ lines) ≡ t =
-        sym (append_assoc own e lines) ∙ ap (λ x. x ++ lines) whole ∙ blank_lines_at_end-rest o t in
+        sym (append_assoc own e lines) ∙ ap (λ x. x ++ lines) whole ∙ quiet_lines_at_end-rest o t in
         let source : (pair_line p.stretches ++ own) ++ (e ++ lines) ≡ pair_source p.stretches =
         append_assoc (pair_line p.stretches) own (e ++ lines) ∙ ap (λ x. pair_line p.stretches ++ x) trailing
         ∙ line_then p.stretches in
@@ -389,7 +302,7 @@ pair_commented {o} {d} p r is g none apart =
         (ap (λ x. x ++ b) (sym source) ∙ append_assoc (pair_line p.stretches ++ own) (e ++ lines) b
         ∙ ap (λ x. (pair_line p.stretches ++ own) ++ x) (append_assoc e lines b))
         end
-        (gap_join (blank_gap on is.are_trailing) (subst (λ c. IsGap o c b r) last g))
+        (gap_join (quiet_lines_gap on is.are_trailing refl) (subst (λ c. IsGap o c b r) last g))
 
     at : (on : Bool) → o.enabled_indented_mutiline_value ≡ on
         → is_text (end_part o on p) (carriage_return ∷ []) ≡ false

@@ -205,3 +205,7 @@ chars-mark = refl
 pub chars-return : chars (13 ∷ []) ≡ carriage_return ∷ []
 unfolding chars
 chars-return = refl
+
+pub chars-blank_return : chars (32 ∷ (13 ∷ [])) ≡ space ∷ (carriage_return ∷ [])
+unfolding chars
+chars-blank_return = refl

@@ -29,7 +29,7 @@ use Rattle.ini_edit.proofs.CommentRowLemmas.{comments_begin}
 use Rattle.ini_edit.proofs.GapPartLemmas.{LineStarts, Parts, gap_nothing, gap_parts}
 use Rattle.ini_edit.proofs.InPlaceLemmas.{in_place-before, in_place-put, in_place-split}
 use Rattle.ini_edit.proofs.GapLemmas.{gap_join}
-use Rattle.ini_edit.proofs.SourceSetLemmas.{line_end_no_mark}
+use Rattle.ini_edit.proofs.QuietLemmas.{line_end_no_mark}
 use Rattle.ini_edit.proofs.SpanFrontLemmas.{gap_free}
 use Rattle.ini_edit.proofs.SpanLemmas.{spans_local}
 
@@ -46,10 +46,11 @@ no_blank_key (c ∷ x) key blank =
 
 -- a key is read after LF as where it stood
 pub key_agrees : {o : ParseOption} {d e : ℕ} {k r key : Text} → KeyFront o (d ∷ []) k r key
-    → is_line_feed e ≡ true → Agree (d ∷ []) (e ∷ []) (k ++ r)
+    → is_line_feed e ≡ true → Agree o (d ∷ []) (e ∷ []) (k ++ r)
 key_agrees {d = d} {e} front one = record {
   line = λ blank. at front blank ∙ sym (feed_ends_line e one);
   column = λ mark. no_key front mark;
+  comment = λ _ mark. no_key front mark;
 }
   where
     at : {o : ParseOption} {k r key : Text} → KeyFront o (d ∷ []) k r key → BeginsWith is_blank (k ++ r)
@@ -101,7 +102,7 @@ module _ {o : ParseOption} where
       → AreSpans o line_feed (xs ++ (gap old ∷ zs)) []
       → AreSpans o line_feed xs (new ++ (joined span_source zs ++ []))
       → IsGap o (last_or line_feed (joined span_source xs)) new (joined span_source zs ++ [])
-      → Agree (last_or (last_or line_feed (joined span_source xs)) old ∷ [])
+      → Agree o (last_or (last_or line_feed (joined span_source xs)) old ∷ [])
       (last_or (last_or line_feed (joined span_source xs)) new ∷ []) (joined span_source zs)
       → AreSpans o line_feed (xs ++ (gap new ∷ zs)) []
   gap_exchanged xs zs old new h front made agrees =
@@ -110,9 +111,9 @@ module _ {o : ParseOption} where
       in_place-put span_source spans_local xs (gap old ∷ []) (gap new ∷ []) zs h
       (subst (λ t. AreSpans o line_feed xs (t ++ (following ++ []))) (sym (append-nil new)) front)
       (AreInPlace.more (IsSpan.is_gap made) AreInPlace.none)
-      (subst (λ t. Agree (last_or last t ∷ []) (last_or last (new ++ []) ∷ []) following)
+      (subst (λ t. Agree o (last_or last t ∷ []) (last_or last (new ++ []) ∷ []) following)
       (sym (append-nil old))
-      (subst (λ t. Agree (last_or last old ∷ []) (last_or last t ∷ []) following) (sym (append-nil new))
+      (subst (λ t. Agree o (last_or last old ∷ []) (last_or last t ∷ []) following) (sym (append-nil new))
       agrees))
 
   -- a gap up to the comment lines at its end, and these
@@ -205,9 +206,9 @@ module _ (o : ParseOption) (xs zs : List Span) (q : Stretches) (key value kept c
           let some : following ≢ [] = λ none. pair_some q (joined span_source zs ++ [])
           (sym (append_assoc (pair_source q) (joined span_source zs) []) ∙ none) in
           let parts = comments_parted kept comments some column g in
-          let agrees : Agree (last_or last (kept ++ comments) ∷ []) (last_or last (kept ++ new) ∷ [])
+          let agrees : Agree o (last_or last (kept ++ comments) ∷ []) (last_or last (kept ++ new) ∷ [])
           (joined span_source rest) =
-          subst (Agree (last_or last (kept ++ comments) ∷ []) (last_or last (kept ++ new) ∷ []))
+          subst (Agree o (last_or last (kept ++ comments) ∷ []) (last_or last (kept ++ new) ∷ []))
           (sym (pair_then q (joined span_source zs)))
           (key_agrees (KeyFront-alike Alike.same is.key_front)
           (ap is_line_feed (last_or-append last kept new) ∙ one)) in

@@ -1,13 +1,12 @@
--- The lines after a multiline value whose pair is taken out: the blank ones at their end stay, and where what
+-- The lines after a multiline value whose pair is taken out: the quiet ones at their end stay, and where what
 -- follows would notice it, the line end before these.
-use Rattle.std.proofs.Common.{◌≡◌, ◌≢◌, ◌∙◌, ◌==◌, ◌&&◌, ◌||◌, ℕ, Bool, true, false, not, [], ◌∷◌}
+use Rattle.std.proofs.Common.{◌≡◌, ◌≢◌, ◌∙◌, ◌==◌, ◌&&◌, ℕ, Bool, true, false, not, [], ◌∷◌}
 use Rattle.std.proofs.Common.{◌++◌, ap, append-nil, eqb-true, if◌then◌else◌, inl, inr, refl, subst, sym}
-use Rattle.std.proofs.lemmas.Bool.{and_parts, both_ways, cond-true, false≢true}
-use Rattle.std.proofs.lemmas.Bool.{not_from_true, not-false, or_cases, or_left, or_parts}
-use Rattle.std.proofs.lemmas.List.Folds.{list_all-append}
-use Rattle.std.specs.List.{list_all}
+use Rattle.std.proofs.lemmas.Bool.{and_from, and_parts, both_ways, cond-true, false≢true}
+use Rattle.std.proofs.lemmas.Bool.{not_from_true, not-false, or_cases, or_parts}
 use Rattle.ini_text.specs.Grammar.CharacterKinds.{BeginsWith, BeginsWithNo, carriage_return}
-use Rattle.ini_text.specs.Grammar.CharacterKinds.{is_comment_mark, is_line_end, is_line_feed, line_feed}
+use Rattle.ini_text.specs.Grammar.CharacterKinds.{is_comment_mark, is_line_end, is_line_feed, line_feed, space}
+use Rattle.ini_text.specs.Grammar.Elements.{Element, Gap}
 use Rattle.ini_text.specs.Grammar.Places.{TrailingLines}
 use Rattle.ini_text.specs.Grammar.Positions.{last_or}
 use Rattle.ini_text.specs.Grammar.Values.{MoreLines}
@@ -15,20 +14,22 @@ use Rattle.ini_text.specs.Inside.PlainTests.{begins}
 use Rattle.ini_text.specs.Parsing.Fronts.{front_of}
 use Rattle.ini_text.specs.declared.option.ParseOption.{ParseOption}
 use Rattle.ini_text.proofs.LawLemmas.PieceLemmas.{last_or-append}
-use Rattle.ini.specs.Texts.{Text}
-use Rattle.ini_edit.specs.Endings.{Ending}
-use Rattle.ini_edit.specs.Inside.SourceEnds.{goes_after}
+use Rattle.ini.specs.Texts.{Text, is_text}
 use Rattle.ini_edit.specs.Inside.Spans.{IsGap}
-use Rattle.ini_edit.specs.SourceLines.{is_blank_or_line_end}
-use Rattle.ini_edit.specs.SourceLines.{after_line_end, after_line_feed, blank_lines_at_end, ends_in_line}
-use Rattle.ini_edit.specs.SourceLines.{is_empty, is_one_line_end, line_end_at_end}
+use Rattle.ini_edit.specs.Places.{Follows}
+use Rattle.ini_edit.specs.SourceEditsDelete.{goes_after, left_after}
+use Rattle.ini_edit.specs.SourceLines.{ends_alike}
+use Rattle.ini_edit.specs.SourceLines.{LinePlace, after_line_end, after_line_feed, are_quiet, ends_in_line}
+use Rattle.ini_edit.specs.SourceLines.{is_blank_or_line_end, is_empty, is_one_line_end, line_end_at_end}
+use Rattle.ini_edit.specs.SourceLines.{next_place, quiet_lines_at_end}
 use Rattle.ini_edit.proofs.AheadLemmas.{more_follows}
-use Rattle.ini_edit.proofs.BlankLineLemmas.{AreBlank, blank_all, line_last, lines_end, no_lines}
+use Rattle.ini_edit.proofs.BlankLineLemmas.{AreBlank, line_last, lines_end, no_lines, own_ends, quiet_all}
 use Rattle.ini_edit.proofs.BlankLineLemmas.{trailing_blank, trailing_ends}
-use Rattle.ini_edit.proofs.CommentLemmas.{begins_front, begins_with}
-use Rattle.ini_edit.proofs.GapLemmas.{EndsThere, white_gap}
+use Rattle.ini_edit.proofs.BlankValueLemmas.{are_blank as blank_lines_are}
+use Rattle.ini_edit.proofs.GapLemmas.{EndsThere, gap_join, gap_more, no_gap}
 use Rattle.ini_edit.proofs.MarkLemmas.{mark_apart}
-use Rattle.ini_edit.proofs.SourceLineLemmas.{blank_lines_at_end-rest}
+use Rattle.ini_edit.proofs.QuietGapLemmas.{line_end_more, quiet_gap}
+use Rattle.ini_edit.proofs.SourceLineLemmas.{quiet_lines_at_end-rest}
 
 -- one line end, or none
 pub data IsLineEnd : Text → Type 0 where
@@ -97,39 +98,45 @@ end_last c d (e ∷ f ∷ t) some h =
     at true more = refl
     at false more = more
 
--- the line end that goes before the blank lines, unless it goes with the pair
-abbrev pub kept_end : (o : ParseOption) (goes : Bool) → (own : Text) → Text
-kept_end o goes own =
-    if goes then [] else (if not (ends_in_line o own) then [] else line_end_at_end own)
-
--- of the lines t after a value its own; and what stays of t, before the gap b, after a text of this last
--- character
+-- of the lines t after a value its own, and the line end after them; and what stays of t, before the gap b,
+-- after a text of this last character
 abbrev pub own_of : (o : ParseOption) → Text → Text
-own_of o t = front_of t (blank_lines_at_end o t)
+own_of o t = front_of t (quiet_lines_at_end o t)
+
+abbrev pub end_of : (o : ParseOption) → (own : Text) → Text
+end_of o own = if not (ends_in_line o own) then [] else line_end_at_end own
 
 abbrev pub staying : (o : ParseOption) (last : ℕ) → (t b : Text) → Text
 staying o last t b =
-    kept_end o (goes_after last (blank_lines_at_end o t) b) (own_of o t) ++ blank_lines_at_end o t
+    left_after true last (end_of o (own_of o t)) (quiet_lines_at_end o t) b ++ quiet_lines_at_end o t
 
-kept_is : (o : ParseOption) (goes : Bool) (own : Text) → IsLineEnd (kept_end o goes own)
-kept_is o true own = IsLineEnd.none
-kept_is o false own = at (not (ends_in_line o own))
+pub end_gap : {o : ParseOption} {c : ℕ} {e x : Text} → IsLineEnd e → IsGap o c e x
+end_gap IsLineEnd.none = no_gap
+end_gap IsLineEnd.lf = line_end_more line_feed refl no_gap
+end_gap IsLineEnd.cr_lf = line_end_more carriage_return refl (line_end_more line_feed refl no_gap)
+end_gap IsLineEnd.cr = line_end_more carriage_return refl no_gap
+
+-- a blank and a CR, where a line starts
+blank_return_gap : {o : ParseOption} {c : ℕ} {t x : Text} → is_line_end c ≡ true
+    → IsGap o carriage_return t x → IsGap o c (space ∷ carriage_return ∷ t) x
+blank_return_gap starts g =
+    gap_more (Element.gap (Gap.blank_line {w = space ∷ []} carriage_return
+    (record { at_line_start = starts; some = refl; blank = refl }) refl)) g
+
+return_is : {e : Text} → IsLineEnd e → is_text e (carriage_return ∷ []) ≡ true → e ≡ carriage_return ∷ []
+return_is IsLineEnd.none h = absurd (false≢true h)
+return_is IsLineEnd.lf h = absurd (false≢true h)
+return_is IsLineEnd.cr_lf h = absurd (false≢true h)
+return_is IsLineEnd.cr h = refl
+
+pub alike_is : (c d : ℕ) → ends_alike c d ≡ true → is_line_feed d ≡ is_line_feed c
+alike_is c d h = at (is_line_feed c) (is_line_feed d) h
   where
-    at : (b : Bool) → IsLineEnd (if b then [] else line_end_at_end own)
-    at true = IsLineEnd.none
-    at false = end_is own
-
-end_white : {e : Text} → IsLineEnd e → list_all is_blank_or_line_end e ≡ true
-end_white IsLineEnd.none = refl
-end_white IsLineEnd.lf = refl
-end_white IsLineEnd.cr_lf = refl
-end_white IsLineEnd.cr = refl
-
-end_ends : {e : Text} → IsLineEnd e → is_line_end (last_or line_feed e) ≡ true
-end_ends IsLineEnd.none = refl
-end_ends IsLineEnd.lf = refl
-end_ends IsLineEnd.cr_lf = refl
-end_ends IsLineEnd.cr = refl
+    at : (x y : Bool) → (if x then y else not y) ≡ true → y ≡ x
+    at true true h = refl
+    at true false h = h
+    at false true h = sym h
+    at false false h = refl
 
 begins_some : (test : ℕ → Bool) (x : Text) → BeginsWith test x → x ≢ []
 begins_some test x h is = false≢true (sym (subst (BeginsWith test) is h))
@@ -140,134 +147,211 @@ begins_here [] [] unmarked h = absurd (false≢true (sym h))
 begins_here [] (c ∷ r) unmarked h = absurd (both_ways (is_comment_mark c) unmarked h)
 begins_here (c ∷ b) r unmarked h = h
 
-white_no_mark : (r b : Text) → list_all is_blank_or_line_end r ≡ true → begins is_comment_mark (r ++ b) ≡ true
+quiet_no_mark : (o : ParseOption) (r b : Text) → are_quiet o LinePlace.line r ≡ true
+    → begins is_comment_mark (r ++ b) ≡ true
     → (r ≡ []) × (begins is_comment_mark b ≡ true)
-white_no_mark [] b all h = (refl, h)
-white_no_mark (c ∷ r) b all h = absurd (both_ways (is_blank_or_line_end c) (mark_apart c h)
-    (and_parts (is_blank_or_line_end c) (list_all is_blank_or_line_end r) all).0)
-
--- where a comment follows, what stays ends in column one if what was there did
-column_kept : (o : ParseOption) (last d : ℕ) (own r b : Text) (goes : Bool) → goes_after last r b ≡ goes
-    → begins is_comment_mark b ≡ true → ends_in_line o (own ++ r) ≡ true
-    → is_line_feed (last_or d (own ++ r)) ≡ true
-    → is_line_feed (last_or last (kept_end o goes own ++ r)) ≡ true
-column_kept o last d own (c ∷ r) b goes is mark ends column =
-    subst (λ z. is_line_feed z ≡ true) (sym (last_or-append last (kept_end o goes own) (c ∷ r)))
-    (subst (λ z. is_line_feed z ≡ true) (last_or-append d own (c ∷ r)) column)
-column_kept o last d own [] b true is mark ends column =
-    let parts = and_parts (is_line_end last) (is_line_feed last || not (begins is_comment_mark b)) is in
-    elim (or_cases (is_line_feed last) (not (begins is_comment_mark b)) parts.1) [
-      | inl feed ↦ feed
-      | inr other ↦
-          absurd (both_ways (not (begins is_comment_mark b))
-          (not_from_true (begins is_comment_mark b) mark) other)
-    ]
-column_kept o last d own [] b false is mark ends column =
-    let ends_own : ends_in_line o own ≡ true = subst (λ t. ends_in_line o t ≡ true) (append-nil own) ends in
-    let feed : is_line_feed (last_or d own) ≡ true =
-    subst (λ t. is_line_feed (last_or d t) ≡ true) (append-nil own) column in
-    let some : own ≢ [] = λ is_none. false≢true (subst (λ t. ends_in_line o t ≡ true) is_none ends_own) in
-    subst (λ t. is_line_feed (last_or last t) ≡ true)
-    (sym (append-nil (kept_end o false own) ∙ ap (λ b. if not b then [] else line_end_at_end own) ends_own))
-    (subst (λ z. is_line_feed z ≡ true)
-    (sym (end_last last d own some (or_left (is_line_feed (last_or d own)) _ feed))) feed)
+quiet_no_mark o [] b all h = (refl, h)
+quiet_no_mark o (c ∷ r) b all h =
+    absurd (both_ways (is_blank_or_line_end c) (mark_apart c h)
+    (and_parts (is_blank_or_line_end c) (are_quiet o (next_place o LinePlace.line c r) r) all).0)
 
 -- the lines t after a multiline value, before the gap b and r
 module _ {o : ParseOption} (on : o.enabled_indented_mutiline_value ≡ true) {t : Text} (b r : Text)
     (trailing : TrailingLines o t (b ++ r)) (last : ℕ) where
-  own_whole : own_of o t ++ blank_lines_at_end o t ≡ t
-  own_whole = blank_lines_at_end-rest o t
+  own_whole : own_of o t ++ quiet_lines_at_end o t ≡ t
+  own_whole = quiet_lines_at_end-rest o t
 
-  are_blank : AreBlank o (blank_lines_at_end o t) (b ++ r)
+  are_blank : AreBlank o (quiet_lines_at_end o t) (b ++ r)
   are_blank = trailing_blank on trailing
 
-  ends_there : EndsThere (b ++ r) (last_or line_feed (staying o last t b))
-  ends_there = at (b ++ r) refl
+  quiet_ends : EndsThere (b ++ r) (last_or line_feed (quiet_lines_at_end o t))
+  quiet_ends = at (b ++ r) refl
     where
-      first : Text
-      first = kept_end o (goes_after last (blank_lines_at_end o t) b) (own_of o t)
-
-      at : (x : Text) → b ++ r ≡ x → EndsThere (b ++ r) (last_or line_feed (staying o last t b))
+      at : (x : Text) → b ++ r ≡ x → EndsThere (b ++ r) (last_or line_feed (quiet_lines_at_end o t))
       at [] is = EndsThere.text is
       at (c ∷ x) is =
           let some : b ++ r ≢ [] = λ is_none. (let other : c ∷ x ≡ [] = sym is ∙ is_none in cc) in
-          EndsThere.line (subst (λ z. is_line_end z ≡ true)
-          (sym (last_or-append line_feed first (blank_lines_at_end o t)))
-          (line_last o Ending.line (last_or line_feed first) (blank_lines_at_end o t)
-          (λ _. end_ends (kept_is o (goes_after last (blank_lines_at_end o t) b) (own_of o t)))
-          (lines_end some are_blank.are)))
+          EndsThere.line (line_last o LinePlace.line line_feed (quiet_lines_at_end o t) (λ _. refl)
+          (lines_end some are_blank.are are_blank.all))
 
-  -- they are a gap
-  pub staying_gap : {c : ℕ} → IsGap o c (staying o last t b) (b ++ r)
-  staying_gap =
-      white_gap _
-      (rw (
-        list_all-append is_blank_or_line_end
-            (kept_end o (goes_after last (blank_lines_at_end o t) b) (own_of o t)) (blank_lines_at_end o t),
-        end_white (kept_is o (goes_after last (blank_lines_at_end o t) b) (own_of o t)),
-        blank_all o Ending.inside t,
-      ) refl)
-      ends_there
+  -- where a line starts the quiet lines are a gap
+  pub quiet_after : {c : ℕ} → is_line_end c ≡ true → IsGap o c (quiet_lines_at_end o t) (b ++ r)
+  quiet_after starts = quiet_gap (quiet_lines_at_end o t) starts (quiet_all o LinePlace.within t) quiet_ends
 
-  -- they end in column one, where what follows must be there
-  pub staying_column : (d : ℕ) → BeginsWithNo is_comment_mark r → BeginsWith is_comment_mark (b ++ r)
-      → is_line_feed (last_or d t) ≡ true
-      → is_line_feed (last_or last (staying o last t b)) ≡ true
-  staying_column d unmarked mark column =
-      column_kept o last d (own_of o t) (blank_lines_at_end o t) b
-      (goes_after last (blank_lines_at_end o t) b) refl
-      (begins_here b r unmarked mark)
-      (subst (λ s. ends_in_line o s ≡ true) (sym own_whole)
-      (trailing_ends (begins_some is_comment_mark (b ++ r) mark) on trailing))
-      (subst (λ s. is_line_feed (last_or d s) ≡ true) (sym own_whole) column)
+  -- where no line end ends the lines before them there are none
+  pub none_unended : ends_in_line o (own_of o t) ≡ false → quiet_lines_at_end o t ≡ []
+  none_unended off = at (quiet_lines_at_end o t) refl
+    where
+      at : (x : Text) → quiet_lines_at_end o t ≡ x → quiet_lines_at_end o t ≡ []
+      at [] is = is
+      at (c ∷ x) is =
+          absurd (both_ways (ends_in_line o (own_of o t)) off
+          (own_ends o LinePlace.within t (own_of o t)
+          (λ h. let other : c ∷ x ≡ [] = sym is ∙ h in cc) own_whole))
+
+  own_some : ends_in_line o (own_of o t) ≡ true → own_of o t ≢ []
+  own_some ends is_none = false≢true (subst (λ z. ends_in_line o z ≡ true) is_none ends)
+
+  own_end : (c : ℕ) → ends_in_line o (own_of o t) ≡ true
+      → is_line_end (last_or c (line_end_at_end (own_of o t))) ≡ true
+  own_end c ends =
+      let is_end = line_last o LinePlace.within line_feed (own_of o t) (λ inner. absurd (false≢true inner))
+      ends in
+      subst (λ z. is_line_end z ≡ true) (sym (end_last c line_feed (own_of o t) (own_some ends) is_end)) is_end
+
+  -- what stays is a gap
+  pub staying_gap : IsGap o last (staying o last t b) (b ++ r)
+  staying_gap = at (ends_in_line o (own_of o t)) refl
+    where
+      q : Text
+      q = quiet_lines_at_end o t
+
+      Left : (e : Text) → Type 0
+      Left e = IsGap o last (left_after true last e q b ++ q) (b ++ r)
+
+      by : (e : Text) (goes blank : Bool) → goes_after last e q b ≡ goes
+          → (is_line_end last && is_text e (carriage_return ∷ [])) ≡ blank → IsLineEnd e
+          → ((c : ℕ) → is_line_end (last_or c e) ≡ true)
+          → IsGap o last ((if goes then [] else (if blank then space ∷ e else e)) ++ q) (b ++ r)
+      by e true blank goes is end ended = quiet_after (and_parts (is_line_end last) _ goes).0
+      by e false true goes is end ended =
+          let parts = and_parts (is_line_end last) (is_text e (carriage_return ∷ [])) is in
+          subst (λ x. IsGap o last ((space ∷ x) ++ q) (b ++ r)) (sym (return_is end parts.1))
+          (blank_return_gap parts.0 (quiet_after refl))
+      by e false false goes is end ended = gap_join (end_gap end) (quiet_after (ended last))
+
+      none : (x : Text) → (goes blank : Bool) → (is_line_end last && false) ≡ blank
+          → x ≡ [] → IsGap o last ((if goes then [] else (if blank then space ∷ [] else [])) ++ x) (b ++ r)
+      none x true blank is empty = subst (λ z. IsGap o last z (b ++ r)) (sym empty) no_gap
+      none x false true is empty = absurd (false≢true (and_parts (is_line_end last) false is).1)
+      none x false false is empty = subst (λ z. IsGap o last z (b ++ r)) (sym empty) no_gap
+
+      at : (ended : Bool) → ends_in_line o (own_of o t) ≡ ended
+          → Left (if not ended then [] else line_end_at_end (own_of o t))
+      at true is =
+          by (line_end_at_end (own_of o t)) (goes_after last (line_end_at_end (own_of o t)) q b)
+          (is_line_end last && is_text (line_end_at_end (own_of o t)) (carriage_return ∷ [])) refl refl
+          (end_is (own_of o t)) (λ c. own_end c is)
+      at false is = none q (goes_after last [] q b) (is_line_end last && false) refl (none_unended is)
+
+  -- before a comment what stays ends a line as the lines did
+  pub staying_last : (d : ℕ) → BeginsWithNo is_comment_mark r → BeginsWith is_comment_mark (b ++ r)
+      → (is_line_end (last_or d t) ≡ true)
+      × (is_line_feed (last_or last (staying o last t b)) ≡ is_line_feed (last_or d t))
+      × (is_line_end (last_or last (staying o last t b)) ≡ true)
+  staying_last d unmarked mark = let stays = at q refl in (is_end, stays.0, stays.1)
+    where
+      q : Text
+      q = quiet_lines_at_end o t
+
+      ends : ends_in_line o t ≡ true
+      ends = trailing_ends (begins_some is_comment_mark (b ++ r) mark) on trailing
+
+      is_end : is_line_end (last_or d t) ≡ true
+      is_end = line_last o LinePlace.within d t (λ inner. absurd (false≢true inner)) ends
+
+      Ends : Text → Type 0
+      Ends s = (is_line_feed (last_or last s) ≡ is_line_feed (last_or d t))
+          × (is_line_end (last_or last s) ≡ true)
+
+      same : (s : Text) → last_or last s ≡ last_or d t → Ends s
+      same s is = (ap is_line_feed is, ap is_line_end is ∙ is_end)
+
+      by : (goes blank : Bool) → goes_after last (line_end_at_end t) [] b ≡ goes
+          → Ends ((if goes then [] else (if blank then space ∷ line_end_at_end t else line_end_at_end t)))
+      by true blank goes =
+          let parts = and_parts (is_line_end last) _ goes in
+          let some : t ≢ [] = λ is_none. false≢true (subst (λ z. ends_in_line o z ≡ true) is_none ends) in
+          let alike : ends_alike last (last_or last (line_end_at_end t)) ≡ true =
+          elim (or_cases (ends_alike last (last_or last (line_end_at_end t)))
+          (not (begins is_comment_mark b)) parts.1) [
+            | inl is ↦ is
+            | inr other ↦
+                absurd (both_ways (not (begins is_comment_mark b))
+                (not_from_true (begins is_comment_mark b) (begins_here b r unmarked mark)) other)
+          ] in (
+            sym (alike_is last (last_or last (line_end_at_end t)) alike)
+                ∙ ap is_line_feed (end_last last d t some is_end),
+            parts.0,
+          )
+      by false blank goes =
+          let some : t ≢ [] = λ is_none. false≢true (subst (λ z. ends_in_line o z ≡ true) is_none ends) in
+          kept blank some
+        where
+          kept : (blank : Bool) → t ≢ []
+              → Ends (if blank then space ∷ line_end_at_end t else line_end_at_end t)
+          kept true some = same (space ∷ line_end_at_end t) (end_last space d t some is_end)
+          kept false some = same (line_end_at_end t) (end_last last d t some is_end)
+
+      at : (x : Text) → q ≡ x → Ends (staying o last t b)
+      at (c ∷ x) is =
+          let left = left_after true last (end_of o (own_of o t)) q b in
+          same (left ++ q) (ap (λ z. last_or last (left ++ z)) is
+          ∙ last_or-append last left (c ∷ x)
+          ∙ sym (last_or-append d (own_of o t) (c ∷ x)) ∙ ap (λ z. last_or d (own_of o t ++ z)) (sym is)
+          ∙ ap (last_or d) own_whole)
+      at [] is =
+          let whole : own_of o t ≡ t =
+          sym (append-nil (own_of o t)) ∙ ap (λ x. own_of o t ++ x) (sym is) ∙ own_whole in
+          let left : Text → Text → Text = λ own x. left_after true last (end_of o own) x b ++ x in
+          let so : staying o last t b ≡ left_after true last (line_end_at_end t) [] b =
+          ap (λ own. left own q) whole ∙ ap (left t) is ∙ append-nil (left_after true last (end_of o t) [] b)
+          ∙ ap (λ z. left_after true last (if not z then [] else line_end_at_end t) [] b) ends in
+          subst Ends (sym so)
+          (by (goes_after last (line_end_at_end t) [] b)
+          (is_line_end last && is_text (line_end_at_end t) (carriage_return ∷ [])) refl)
 
   -- after a line end they are lines of a value
-  pub staying_lines : (d : ℕ) → is_line_end last ≡ true
-      → (BeginsWith is_comment_mark (b ++ r) → is_line_feed (last_or d t) ≡ true)
-      → AreBlank o (staying o last t b) (b ++ r)
-  staying_lines d starts column = at (goes_after last (blank_lines_at_end o t) b) refl
+  pub staying_lines : is_line_end last ≡ true → AreBlank o (staying o last t b) (b ++ r)
+  staying_lines starts = at (goes_after last (end_of o (own_of o t)) (quiet_lines_at_end o t) b) refl
     where
-      ended : {e : Text} → IsLineEnd e → last_or d e ≡ last_or d t → is_line_feed (last_or d t) ≡ true
-          → AreBlank o e (b ++ r)
-      ended IsLineEnd.none same feed =
-          let follows = more_follows are_blank.are in no_lines (follows.no_blank on) (follows.no_line_end on)
-      ended IsLineEnd.lf same feed =
-          let follows = more_follows are_blank.are in
-          record {
-            value = line_feed ∷ [];
-            are = MoreLines.empty_lf (MoreLines.done (follows.no_blank on) (follows.no_line_end on));
-            all = refl;
-          }
-      ended IsLineEnd.cr_lf same feed =
-          let follows = more_follows are_blank.are in
-          record {
-            value = line_feed ∷ [];
-            are = MoreLines.empty_cr_lf (MoreLines.done (follows.no_blank on) (follows.no_line_end on));
-            all = refl;
-          }
-      ended IsLineEnd.cr same feed = absurd (false≢true (subst (λ z. is_line_feed z ≡ true) (sym same) feed))
+      e : Text
+      e = end_of o (own_of o t)
 
-      at : (b' : Bool) → goes_after last (blank_lines_at_end o t) b ≡ b'
-          → AreBlank o (kept_end o b' (own_of o t) ++ blank_lines_at_end o t) (b ++ r)
+      end_kind : (z : Bool) → IsLineEnd (if not z then [] else line_end_at_end (own_of o t))
+      end_kind true = end_is (own_of o t)
+      end_kind false = IsLineEnd.none
+
+      follows : Follows o (b ++ r)
+      follows = more_follows are_blank.are
+
+      one : {e : Text} → IsLineEnd e → (blank : Bool)
+          → (is_line_end last && is_text e (carriage_return ∷ [])) ≡ blank
+          → AreBlank o (if blank then space ∷ e else e) (b ++ r)
+      one end true is =
+          let parts = and_parts (is_line_end last) _ is in
+          subst (λ x. AreBlank o (space ∷ x) (b ++ r)) (sym (return_is end parts.1))
+          (blank_lines_are (space ∷ carriage_return ∷ []) (b ++ r) refl refl
+          (inr (refl, follows.no_blank on, follows.no_line_end on)))
+      one IsLineEnd.none false is = no_lines (follows.no_blank on) (follows.no_line_end on)
+      one IsLineEnd.lf false is = record {
+        value = line_feed ∷ [];
+        are = MoreLines.empty_lf (MoreLines.done (follows.no_blank on) (follows.no_line_end on));
+        all = refl;
+      }
+      one IsLineEnd.cr_lf false is = record {
+        value = line_feed ∷ [];
+        are = MoreLines.empty_cr_lf (MoreLines.done (follows.no_blank on) (follows.no_line_end on));
+        all = refl;
+      }
+      one IsLineEnd.cr false is =
+          absurd (both_ways (is_line_end last && true) is (and_from (is_line_end last) true starts refl))
+
+      second : (x y : Bool) → (x && y) ≡ false → x ≡ true → y ≡ false
+      second true y h q = h
+      second false y h q = absurd (false≢true q)
+
+      at : (goes : Bool) → goes_after last e (quiet_lines_at_end o t) b ≡ goes
+          → AreBlank o ((if goes then []
+          else (if is_line_end last && is_text e (carriage_return ∷ []) then space ∷ e else e))
+          ++ quiet_lines_at_end o t) (b ++ r)
       at true is = are_blank
       at false is =
-          let marked = not-false (begins is_comment_mark (blank_lines_at_end o t ++ b))
-          (or_parts (is_line_feed last) _ (no_second (is_line_end last) _ is starts)).1 in
-          let parts = white_no_mark (blank_lines_at_end o t) b (blank_all o Ending.inside t) marked in
-          let mark = begins_front is_comment_mark b r (begins_with is_comment_mark b parts.1) in
-          let whole : own_of o t ≡ t =
-          sym (append-nil (own_of o t))
-          ∙ ap (λ x. own_of o t ++ x) (sym parts.0) ∙ own_whole in
-          let ends = trailing_ends (begins_some is_comment_mark (b ++ r) mark) on trailing in
-          let some : t ≢ [] = λ is_none. false≢true (subst (λ s. ends_in_line o s ≡ true) is_none ends) in
-          let is_end = line_last o Ending.inside d t (λ inner. absurd (false≢true inner)) ends in
-          let kept : kept_end o false (own_of o t) ++ blank_lines_at_end o t ≡ line_end_at_end t =
-          ap (λ x. kept_end o false (own_of o t) ++ x) parts.0
-          ∙ append-nil (kept_end o false (own_of o t))
-          ∙ ap (kept_end o false) whole ∙ ap (λ c. if not c then [] else line_end_at_end t) ends in
-          subst (λ s. AreBlank o s (b ++ r)) (sym kept)
-          (ended (end_is t) (end_last d d t some is_end) (column mark))
-        where
-          no_second : (x y : Bool) → (x && y) ≡ false → x ≡ true → y ≡ false
-          no_second true y h q = h
-          no_second false y h q = absurd (false≢true q)
+          let marked = not-false (begins is_comment_mark (quiet_lines_at_end o t ++ b))
+          (or_parts (ends_alike last (last_or last e)) _ (second (is_line_end last) _ is starts)).1 in
+          let parts = quiet_no_mark o (quiet_lines_at_end o t) b (quiet_all o LinePlace.within t) marked in
+          let kept = if is_line_end last && is_text e (carriage_return ∷ []) then space ∷ e else e in
+          subst (λ x. AreBlank o (kept ++ x) (b ++ r)) (sym parts.0)
+          (subst (λ x. AreBlank o x (b ++ r)) (sym (append-nil kept))
+          (one (end_kind (ends_in_line o (own_of o t)))
+          (is_line_end last && is_text e (carriage_return ∷ [])) refl))

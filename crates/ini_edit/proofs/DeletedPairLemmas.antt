@@ -1,4 +1,4 @@
--- A pair of a multiline value taken out of a text in pieces: its blank lines go to the gap before it, or to
+-- A pair of a multiline value taken out of a text in pieces: its quiet lines go to the gap before it, or to
 -- the lines of the pair before it.
 use Rattle.std.proofs.Common.{◌≡◌, ◌≢◌, ◌∙◌, ℕ, Bool, true, List, [], ◌∷◌, ◌++◌, ap, append_assoc, append-nil}
 use Rattle.std.proofs.Common.{inl, inr, refl, subst, sym}
@@ -8,22 +8,22 @@ use Rattle.ini_text.specs.Grammar.CharacterKinds.{BeginsWith, BeginsWithNo, is_b
 use Rattle.ini_text.specs.Grammar.CharacterKinds.{is_line_end, is_line_feed, line_feed}
 use Rattle.ini_text.specs.Grammar.Keys.{KeyFront}
 use Rattle.ini_text.specs.Grammar.Places.{Stretches, pair_source, value_source}
-use Rattle.ini_text.specs.Grammar.Positions.{is_column_one, last_or}
+use Rattle.ini_text.specs.Grammar.Positions.{last_or}
 use Rattle.ini_text.specs.Grammar.Values.{Value}
 use Rattle.ini_text.specs.Laws.PieceLaws.{Agree, BeginAlike}
 use Rattle.ini_text.specs.declared.option.ParseOption.{ParseOption}
 use Rattle.ini_text.proofs.LawLemmas.LocalLemmas.{Agree-front}
 use Rattle.ini_text.proofs.LawLemmas.PieceLemmas.{last_or-append}
 use Rattle.ini.specs.Texts.{Text}
-use Rattle.ini_edit.specs.Endings.{Ending}
 use Rattle.ini_edit.specs.Inside.InPlace.{AreInPlace}
 use Rattle.ini_edit.specs.Inside.Spans.{AreSpans, IsGap, IsPair, IsSpan, Span, gap, opening, pair}
 use Rattle.ini_edit.specs.Inside.Spans.{span_source}
+use Rattle.ini_edit.specs.SourceLines.{LinePlace}
 use Rattle.ini_edit.specs.Sources.{joined}
 use Rattle.ini_edit.proofs.AheadLemmas.{key_follows, value_follows}
 use Rattle.ini_edit.proofs.BlankLineLemmas.{AreBlank, line_last, trailing_ends}
-use Rattle.ini_edit.proofs.DeletedLinesLemmas.{staying, staying_column, staying_gap, staying_lines}
-use Rattle.ini_edit.proofs.GapLemmas.{gap_join, gap_like, spans_column}
+use Rattle.ini_edit.proofs.DeletedLinesLemmas.{staying, staying_gap, staying_last, staying_lines}
+use Rattle.ini_edit.proofs.GapLemmas.{gap_join, gap_like}
 use Rattle.ini_edit.proofs.InPlaceLemmas.{Agree-after, in_place-before, in_place-exchanged, in_place-join}
 use Rattle.ini_edit.proofs.InPlaceLemmas.{in_place-split, joined-append}
 use Rattle.ini_edit.proofs.SourceDeleteLemmas.{StandsBefore, pair_and_rest, pair_to_gap}
@@ -46,7 +46,6 @@ tail_last c p =
 record IsThere (o : ParseOption) (last : ℕ) (p : Stretches) (key value b r : Text) : Type 0 where
   is : IsPair o last p key value (b ++ r)
   is_gap : IsGap o (last_or last (pair_source p)) b r
-  column : BeginsWith is_comment_mark (b ++ r) → is_column_one (last_or last (pair_source p) ∷ []) ≡ true
 
 is_there : {o : ParseOption} {last : ℕ} {p : Stretches} {key value b : Text} (zs : List Span)
     → AreSpans o last (pair p key value ∷ gap b ∷ zs) []
@@ -57,26 +56,22 @@ is_there {o} {last} {p} {key} {value} {b} zs (AreInPlace.more (IsSpan.is_pair is
     record {
       is = subst (IsPair o last p key value) (append_assoc b rest []) is;
       is_gap = g;
-      column = λ m. spans_column (gap b ∷ zs) (AreInPlace.more (IsSpan.is_gap g) later)
-          (subst (BeginsWith is_comment_mark) (ap (λ t. b ++ t) (append-nil rest)) m);
     }
 
 module _ {o : ParseOption} (on : o.enabled_indented_mutiline_value ≡ true) {last : ℕ} {p : Stretches}
     {key value b r : Text} (there : IsThere o last p key value b r)
     (unmarked : BeginsWithNo is_comment_mark r) where
-  tail_column : BeginsWith is_comment_mark (b ++ r)
-      → is_line_feed (last_or (last_or last (before_tail p)) p.trailing_lines) ≡ true
-  tail_column m = subst (λ z. is_line_feed z ≡ true) (tail_last last p) (there.column m)
-
   -- what follows is read as before
-  kept_agrees : Agree (last_or last (pair_source p) ∷ [])
+  kept_agrees : Agree o (last_or last (pair_source p) ∷ [])
       (last_or last (staying o last p.trailing_lines b) ∷ [])
       (b ++ r)
   kept_agrees = record {
     line = λ m. no_begin is_blank (b ++ r) ((value_follows on there.is.gives).no_blank on) m;
-    column = λ m. there.column m
-        ∙ sym (staying_column on b r there.is.are_trailing last (last_or last (before_tail p)) unmarked m
-        (tail_column m));
+    column = λ m. ap is_line_feed (tail_last last p)
+        ∙ sym (staying_last on b r there.is.are_trailing last (last_or last (before_tail p)) unmarked m).1;
+    comment = λ _ m. ap is_line_end (tail_last last p)
+        ∙ (staying_last on b r there.is.are_trailing last (last_or last (before_tail p)) unmarked m).0
+        ∙ sym (staying_last on b r there.is.are_trailing last (last_or last (before_tail p)) unmarked m).2;
   }
 
   kept_gap : IsGap o last (staying o last p.trailing_lines b ++ b) r
@@ -85,13 +80,12 @@ module _ {o : ParseOption} (on : o.enabled_indented_mutiline_value ≡ true) {la
       (gap_like (Agree-front r kept_agrees) there.is_gap)
 
   kept_lines : is_line_end last ≡ true → AreBlank o (staying o last p.trailing_lines b) (b ++ r)
-  kept_lines starts =
-      staying_lines on b r there.is.are_trailing last (last_or last (before_tail p)) starts tail_column
+  kept_lines starts = staying_lines on b r there.is.are_trailing last starts
 
-  rest_agrees : Agree (last_or (last_or last (pair_source p)) b ∷ [])
+  rest_agrees : Agree o (last_or (last_or last (pair_source p)) b ∷ [])
       (last_or last (staying o last p.trailing_lines b ++ b) ∷ []) r
   rest_agrees =
-      subst (λ z. Agree (last_or (last_or last (pair_source p)) b ∷ []) (z ∷ []) r)
+      subst (λ z. Agree o (last_or (last_or last (pair_source p)) b ∷ []) (z ∷ []) r)
       (sym (last_or-append last (staying o last p.trailing_lines b) b))
       (Agree-after b r kept_agrees)
 
@@ -107,7 +101,7 @@ multiline_to_gap {o} on xs a b p key value zs whole unmarked stands =
     let c = staying o last p.trailing_lines b ++ b in
     let there = is_there zs (pair_and_rest xs a b p key value zs whole) in
     pair_to_gap xs a b p key value zs whole c stands (kept_gap on there unmarked)
-    (subst (Agree (last_or (last_or last (pair_source p)) b ∷ []) (last_or last c ∷ []))
+    (subst (Agree o (last_or (last_or last (pair_source p)) b ∷ []) (last_or last c ∷ []))
     (append-nil (joined span_source zs)) (rest_agrees on there unmarked))
 
 last_of : (c : ℕ) (xs : List Span) (y : Span)
@@ -241,7 +235,7 @@ module _ {o : ParseOption} (on : o.enabled_indented_mutiline_value ≡ true) (xs
           (sym (ap (λ t. t ++ []) (append_assoc p.key (p.separator ∷ value_source p) (b ++ rest))) ∙ empty) in
           let ended : is_line_end (last_of_pair xs q) ≡ true =
           subst (λ z. is_line_end z ≡ true) (sym (tail_last c q))
-          (line_last o Ending.inside (last_or c (before_tail q)) q.trailing_lines
+          (line_last o LinePlace.within (last_or c (before_tail q)) q.trailing_lines
           (λ inner. absurd (false≢true inner))
           (trailing_ends some on before.are_trailing)) in
           let more = kept_lines on there unmarked ended in
@@ -252,6 +246,7 @@ module _ {o : ParseOption} (on : o.enabled_indented_mutiline_value ≡ true) (xs
             gives = subst (λ s. Value o s (b ++ (rest ++ [])) value_q) (with_lines_source lines q)
                 (value_lengthened on more.are more.all some before.gives);
             white_before = before.white_before;
+            starts = before.starts;
             white_after = before.white_after;
             are_trailing = trailing_lengthened on more.are more.all some before.are_trailing;
             own_lines = own_lengthened on more.are more.all some before.are_trailing before.own_lines;
@@ -274,7 +269,7 @@ module _ {o : ParseOption} (on : o.enabled_indented_mutiline_value ≡ true) (xs
           (ends lines there)
         where
           ends : (lines : Text) → IsThere o (last_of_pair xs q) p key value b (rest ++ [])
-              → Agree (last_or c (pair_source q ++ (pair_source p ++ (b ++ []))) ∷ [])
+              → Agree o (last_or c (pair_source q ++ (pair_source p ++ (b ++ []))) ∷ [])
               (last_or c (pair_source (with_lines (staying o (last_of_pair xs q) p.trailing_lines b) q)
               ++ (b ++ [])) ∷ []) rest
           ends lines there =
@@ -291,11 +286,11 @@ module _ {o : ParseOption} (on : o.enabled_indented_mutiline_value ≡ true) (xs
               ∙ ap (λ z. last_or z b) (ap (last_or c) (source_lines kept q)
               ∙ last_or-append c (pair_source q) kept)
               ∙ sym (last_or-append (last_of_pair xs q) kept b) in
-              subst (λ t. Agree (last_or c (pair_source q ++ (pair_source p ++ (b ++ []))) ∷ [])
+              subst (λ t. Agree o (last_or c (pair_source q ++ (pair_source p ++ (b ++ []))) ∷ [])
               (last_or c (pair_source (with_lines kept q) ++ (b ++ [])) ∷ []) t) (append-nil rest)
-              (subst (λ z. Agree (z ∷ []) (last_or c (pair_source (with_lines kept q) ++ (b ++ [])) ∷ [])
+              (subst (λ z. Agree o (z ∷ []) (last_or c (pair_source (with_lines kept q) ++ (b ++ [])) ∷ [])
               (rest ++ []))
               (sym old)
-              (subst (λ z. Agree (last_or (last_or (last_of_pair xs q) (pair_source p)) b ∷ []) (z ∷ [])
+              (subst (λ z. Agree o (last_or (last_or (last_of_pair xs q) (pair_source p)) b ∷ []) (z ∷ [])
               (rest ++ []))
               (sym new) (rest_agrees on there unmarked)))

@@ -17,7 +17,7 @@ use Rattle.ini.specs.Texts.{Text, is_name, is_text}
 use Rattle.ini_edit.specs.Inside.SourceEnds.{IsWithout}
 use Rattle.ini_edit.specs.Inside.Spans.{AreSections}
 use Rattle.ini_edit.specs.SourceEditsDelete.{count_of, deleted_at, deleted_from, deleted_nth, deleted_times}
-use Rattle.ini_edit.specs.SourceEditsDelete.{gap_after, goes_with_line_end, line_end_after, lines_after}
+use Rattle.ini_edit.specs.SourceEditsDelete.{gap_after, line_end_left, lines_after}
 use Rattle.ini_edit.specs.SourceEditsDelete.{pair_taken_out, rest_put, with_rest}
 use Rattle.ini_edit.specs.SourcePlaces.{PairPlace, Place, edited_at, last_before_pair, last_before_section}
 use Rattle.ini_edit.specs.SourcePlaces.{last_changed, nth_place, one_on, pair_place, section_place, with_end}
@@ -199,8 +199,8 @@ rest_put_given o lines g s (x ∷ xs) after =
 pub taken_given : (o : ParseOption) (front : ℕ) (s : SectionPiece) (p : Place PairPiece)
     → given_section (pair_taken_out o front s p) ≡ (s.name, map given_pair (p.before ++ p.after))
 taken_given o front s p =
-    rest_put_given o ((if goes_with_line_end o (last_before_pair front s p) p.here then []
-    else line_end_after o p.here) ++ lines_after o p.here) (gap_after o p.here) s p.before p.after
+    rest_put_given o (line_end_left o (last_before_pair front s p) p.here ++ lines_after o p.here)
+    (gap_after o p.here) s p.before p.after
 
 pub taken_name : (o : ParseOption) (front : ℕ) (s : SectionPiece) (p : Place PairPiece)
     → (pair_taken_out o front s p).name ≡ s.name

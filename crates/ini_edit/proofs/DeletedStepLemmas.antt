@@ -1,18 +1,21 @@
 -- What the calls that take pairs out make, step by step.
-use Rattle.std.proofs.Common.{◌≡◌, ◌∙◌, ◌-◌, ◌<◌, ℕ, Bool, List, [], ◌∷◌, ◌++◌, None, Option}
+use Rattle.std.proofs.Common.{◌≡◌, ◌∙◌, ◌&&◌, ◌-◌, ◌<◌, ℕ, Bool, true, false, List, [], ◌∷◌, ◌++◌, None, Option}
 use Rattle.std.proofs.Common.{Some}
-use Rattle.std.proofs.Common.{ap, arith, drop, get_or, if◌then◌else◌, length, refl, set, subst, sym, take}
+use Rattle.std.proofs.Common.{ap, arith, drop, get_or, length, refl, set, subst, sym, take}
+use Rattle.std.proofs.lemmas.Bool.{and_parts, cond-false, cond-true}
 use Rattle.std.specs.List.{count_by, remove}
 use Rattle.std.specs.Prelude.{option_and_then}
-use Rattle.ini_text.specs.Grammar.CharacterKinds.{line_feed}
+use Rattle.ini_text.specs.Grammar.CharacterKinds.{carriage_return, is_line_end, line_feed, space}
 use Rattle.ini_text.specs.Grammar.Positions.{last_or}
 use Rattle.ini_text.specs.declared.option.ParseOption.{ParseOption}
 use Rattle.ini.specs.Texts.{Text, is_text}
+use Rattle.ini.proofs.KeepingLemmas.{texts_equal}
 use Rattle.ini_edit.specs.Inside.SourceEnds.{IsPairAt, IsPlaceAt, IsWithout, end_put, end_put_at}
-use Rattle.ini_edit.specs.Inside.SourceEnds.{goes_after, last_before}
+use Rattle.ini_edit.specs.Inside.SourceEnds.{last_before}
 use Rattle.ini_edit.specs.SourceEdits.{with_pairs}
 use Rattle.ini_edit.specs.SourceEditsDelete.{deleted_at, deleted_from, deleted_nth, deleted_times}
-use Rattle.ini_edit.specs.SourceEditsDelete.{gap_after, goes_with_line_end, line_end_after, lines_after}
+use Rattle.ini_edit.specs.SourceEditsDelete.{gap_after, goes_after, left_after, line_end_after, line_end_left}
+use Rattle.ini_edit.specs.SourceEditsDelete.{lines_after}
 use Rattle.ini_edit.specs.SourceEditsDelete.{pair_taken_out, rest_put}
 use Rattle.ini_edit.specs.SourcePlaces.{Place, edited_at, exchanged, last_before_pair}
 use Rattle.ini_edit.specs.SourcePlaces.{last_before_section, nth_place, pair_place, section_place, text_up_to}
@@ -29,20 +32,40 @@ end_put_bare : (e : NewEnd) (s : SectionPiece) (ps before after : List PairPiece
 end_put_bare e s ps [] after = refl
 end_put_bare e s ps (x ∷ xs) after = refl
 
+-- what stays of a line end, in each case
+module _ (multiline : Bool) (last : ℕ) (e lines g : Text) where
+  pub left_none : goes_after last e lines g ≡ true → [] ≡ left_after multiline last e lines g
+  left_none goes = sym (cond-true (goes_after last e lines g) _ _ goes)
+
+  pub left_blank : goes_after last e lines g ≡ false
+      → (multiline && (is_line_end last && is_text e (carriage_return ∷ []))) ≡ true
+      → space ∷ carriage_return ∷ [] ≡ left_after multiline last e lines g
+  left_blank stays blank =
+      let inner = (and_parts multiline _ blank).1 in
+      let same = texts_equal e (carriage_return ∷ []) (and_parts (is_line_end last) _ inner).1 in
+      ap (λ t. space ∷ t) (sym same)
+      ∙ sym (cond-false (goes_after last e lines g) _ _ stays
+      ∙ cond-true (multiline && (is_line_end last && is_text e (carriage_return ∷ []))) _ _ blank)
+
+  pub left_whole : goes_after last e lines g ≡ false
+      → (multiline && (is_line_end last && is_text e (carriage_return ∷ []))) ≡ false
+      → e ≡ left_after multiline last e lines g
+  left_whole stays bare =
+      sym (cond-false (goes_after last e lines g) _ _ stays
+      ∙ cond-false (multiline && (is_line_end last && is_text e (carriage_return ∷ []))) _ _ bare)
+
 -- what stays of a pair: what the code puts together
 pub stays_put : (o : ParseOption) (t : SectionPiece) (front i : ℕ) (x : PairPiece) (p : Place PairPiece)
     → IsPlaceAt t.pairs p i → x ≡ p.here → (last : ℕ) → last ≡ last_or front (text_up_to t (take i t.pairs))
     → (end lines g : Text) → end ≡ line_end_after o x → lines ≡ lines_after o x → g ≡ gap_after o x
-    → (goes : Bool) → goes ≡ goes_after last lines g → (first all : Text)
-    → first ≡ (if goes then [] else end) → all ≡ first ++ lines
-    → all ≡ (if goes_with_line_end o (last_before_pair front t p) p.here then [] else line_end_after o p.here)
-    ++ lines_after o p.here
-stays_put o t front i x p at here last is_last end lines g is_end is_lines is_gap goes is_goes first all
-    is_first
-    is_all =
+    → (first all : Text)
+    → first ≡ left_after o.enabled_indented_mutiline_value last end lines g → all ≡ first ++ lines
+    → all ≡ line_end_left o (last_before_pair front t p) p.here ++ lines_after o p.here
+stays_put o t front i x p at here last is_last end lines g is_end is_lines is_gap first all is_first is_all =
     let up_to = last_before_pair front t p in
-    let put : ℕ → Text → Text → Text → Text = λ z e l h. (if goes_after z l h then [] else e) ++ l in
-    is_all ∙ ap (λ f. f ++ lines) is_first ∙ ap (λ b. (if b then [] else end) ++ lines) is_goes
+    let put : ℕ → Text → Text → Text → Text = λ z e l h.
+    left_after o.enabled_indented_mutiline_value z e l h ++ l in
+    is_all ∙ ap (λ f. f ++ lines) is_first
     ∙ ap (λ z. put z end lines g) (is_last ∙ ap (λ ps. last_or front (text_up_to t ps)) (place_take at))
     ∙ ap (λ e. put up_to e lines g) is_end
     ∙ ap (λ l. put up_to (line_end_after o x) l g) is_lines
@@ -54,15 +77,11 @@ pub out_of_section : (o : ParseOption) (t : SectionPiece) (p : Place PairPiece) 
     → IsPlaceAt t.pairs p i → (front : ℕ) (e : NewEnd) (lines g : Text) (left : List PairPiece)
     → ((after : List PairPiece) → end_put e t (take i t.pairs) after
     ≡ rest_put o lines g t (take i t.pairs) after)
-    → lines ≡ (if goes_with_line_end o (last_before_pair front t p) p.here then [] else line_end_after o
-    p.here)
-    ++ lines_after o p.here → g ≡ gap_after o p.here → left ≡ remove t.pairs i
+    → lines ≡ line_end_left o (last_before_pair front t p) p.here ++ lines_after o p.here → g ≡ gap_after o p.here → left ≡ remove t.pairs i
     → end_put_at e i (with_pairs t left) ≡ pair_taken_out o front t p
 out_of_section o t p i at front e lines g left put is_lines is_gap is_left =
     let bare = with_pairs t (remove t.pairs i) in
-    let stays =
-    (if goes_with_line_end o (last_before_pair front t p) p.here then [] else line_end_after o p.here)
-    ++ lines_after o p.here in
+    let stays = line_end_left o (last_before_pair front t p) p.here ++ lines_after o p.here in
     ap (λ ps. end_put_at e i (with_pairs t ps)) is_left
     ∙ ap (λ ps. end_put e bare (take i ps) (drop i ps)) (place_remove at)
     ∙ ap (λ ps. end_put e bare ps (drop i (exchanged p []))) (place_take_put at [])

@@ -1,16 +1,17 @@
 -- Sources of blanks and line ends, which are no key, and texts that no backslash ends.
-use Rattle.std.proofs.Common.{◌≡◌, ◌≢◌, ◌∙◌, ◌||◌, ◌==◌, ℕ, Bool, true, false, not, eqb, List, [], ◌∷◌, ◌++◌, ap}
-use Rattle.std.proofs.Common.{eqb-true, if◌then◌else◌, refl, subst, sym}
-use Rattle.std.proofs.lemmas.Bool.{and_from, and_left, and_parts, false≢true, false_from_ne_true}
-use Rattle.std.proofs.lemmas.Bool.{or_left, or_right}
+use Rattle.std.proofs.Common.{◌≡◌, ◌≢◌, ◌∙◌, ◌||◌, ◌==◌, ℕ, Bool, true, false, not, eqb, List, [], ◌∷◌, ◌++◌}
+use Rattle.std.proofs.Common.{ap, eqb-true, if◌then◌else◌, refl, subst, sym}
+use Rattle.std.proofs.lemmas.Bool.{and_from, and_left, and_parts, both_ways, false≢true}
+use Rattle.std.proofs.lemmas.Bool.{false_from_ne_true, or_left, or_right}
 use Rattle.std.specs.List.{list_all}
-use Rattle.ini_text.specs.Grammar.CharacterKinds.{BeginsWith, backslash, is_blank, is_line_end, line_feed}
-use Rattle.ini_text.specs.Grammar.CharacterKinds.{open_bracket}
-use Rattle.ini_text.specs.Grammar.Keys.{begins_indented_key}
+use Rattle.ini_text.specs.Grammar.CharacterKinds.{BeginsWith, backslash, is_blank, is_comment_mark}
+use Rattle.ini_text.specs.Grammar.CharacterKinds.{is_line_end, line_feed, open_bracket}
+use Rattle.ini_text.specs.Grammar.Keys.{begins_indented_key, begins_note}
 use Rattle.ini_text.specs.Inside.PlainTests.{begins}
 use Rattle.ini_text.specs.Options.Backslashes.{begins_escape}
 use Rattle.ini_text.specs.Options.ReadOptions.{backslash_of}
 use Rattle.ini_text.specs.declared.option.ParseOption.{ParseOption}
+use Rattle.ini_text.proofs.GrammarLemmas.KindLemmas.{comment_mark-apart}
 use Rattle.ini.specs.Texts.{Text}
 use Rattle.ini_edit.specs.Endings.{Closing, Ending, IsIndentedKey, ending_from, next_ending}
 
@@ -19,19 +20,19 @@ begins_yes test [] y h = absurd (let no : true ≡ false = h in cc)
 begins_yes test (c ∷ x) y h = h
 
 -- blanks and line ends begin no indented key
-blanks_no_key : (key : Text) → list_all (λ c. is_blank c || is_line_end c) key ≡ true
-    → ¬ BeginsWith begins_indented_key key
-blanks_no_key [] all h = absurd (let no : true ≡ false = h in cc)
-blanks_no_key (c ∷ key) all h =
+blanks_no_key : (o : ParseOption) (key : Text) → list_all (λ c. is_blank c || is_line_end c) key ≡ true
+    → ¬ BeginsWith (begins_indented_key o) key
+blanks_no_key o [] all h = absurd (let no : true ≡ false = h in cc)
+blanks_no_key o (c ∷ key) all h =
     at (is_blank c) (is_line_end c) (and_parts (is_blank c || is_line_end c) _ all).0 h
   where
-    at : (x y : Bool) → (x || y) ≡ true → not (x || y || c == open_bracket) ≡ true → ⊥
+    at : (x y : Bool) → (x || y) ≡ true → not (x || y || c == open_bracket || begins_note o c) ≡ true → ⊥
     at true y all h = absurd (let no : false ≡ true = h in cc)
     at false true all h = absurd (let no : false ≡ true = h in cc)
     at false false all h = absurd (let no : false ≡ true = all in cc)
 
 -- an indented key's source begins with a blank
-pub key_blank : {c : ℕ} {s : Text} → IsIndentedKey (c ∷ s) → is_blank c ≡ true
+pub key_blank : {o : ParseOption} {c : ℕ} {s : Text} → IsIndentedKey o (c ∷ s) → is_blank c ≡ true
 key_blank key = ap (begins is_blank) key.whole ∙ begins_yes is_blank key.blanks key.key key.some
 
 -- blanks and line ends
@@ -49,29 +50,59 @@ all_after : (a b : Text) → list_all blank_or_end (a ++ b) ≡ true → list_al
 all_after [] b all = all
 all_after (c ∷ a) b all = all_after a b (and_parts (blank_or_end c) _ all).1
 
-pub blank_source_no_key : (s : Text) → list_all blank_or_end s ≡ true → ¬ IsIndentedKey s
-blank_source_no_key s all key =
-    blanks_no_key key.key (all_after key.blanks key.key (ap (list_all blank_or_end) (sym key.whole) ∙ all))
+pub blank_source_no_key : {o : ParseOption} (s : Text) → list_all blank_or_end s ≡ true
+    → ¬ IsIndentedKey o s
+blank_source_no_key {o} s all key =
+    blanks_no_key o key.key (all_after key.blanks key.key (ap (list_all blank_or_end) (sym key.whole) ∙ all))
     key.begins
 
 -- one character is no indented key
-one_no_key : {c : ℕ} (blanks rest : Text) → BeginsWith is_blank blanks → BeginsWith begins_indented_key rest
-    → c ∷ [] ≢ blanks ++ rest
-one_no_key [] rest some begins is = absurd (let no : true ≡ false = some in cc)
-one_no_key blanks [] some begins is = absurd (let no : true ≡ false = begins in cc)
-one_no_key (b ∷ []) (k ∷ rest) some begins is = cc
-one_no_key (b ∷ d ∷ blanks) (k ∷ rest) some begins is = cc
+one_no_key : (o : ParseOption) {c : ℕ} (blanks rest : Text) → BeginsWith is_blank blanks
+    → BeginsWith (begins_indented_key o) rest → c ∷ [] ≢ blanks ++ rest
+one_no_key o [] rest some starts is = absurd (let no : true ≡ false = some in cc)
+one_no_key o blanks [] some starts is = absurd (let no : true ≡ false = starts in cc)
+one_no_key o (b ∷ []) (k ∷ rest) some starts is = cc
+one_no_key o (b ∷ d ∷ blanks) (k ∷ rest) some starts is = cc
 
-pub character_no_key : (c : ℕ) → ¬ IsIndentedKey (c ∷ [])
-character_no_key c key = one_no_key key.blanks key.key key.some key.begins key.whole
+pub character_no_key : {o : ParseOption} (c : ℕ) → ¬ IsIndentedKey o (c ∷ [])
+character_no_key {o} c key = one_no_key o key.blanks key.key key.some key.begins key.whole
 
 -- a line of blanks is none either
-pub line_no_key : (w : Text) (c : ℕ) → list_all is_blank w ≡ true → is_line_end c ≡ true
-    → ¬ IsIndentedKey (w ++ c ∷ [])
+pub line_no_key : {o : ParseOption} (w : Text) (c : ℕ) → list_all is_blank w ≡ true → is_line_end c ≡ true
+    → ¬ IsIndentedKey o (w ++ c ∷ [])
 line_no_key w c blank end =
     blank_source_no_key (w ++ c ∷ [])
     (blanks_all w (c ∷ []) blank
     (and_from (blank_or_end c) true (or_right (is_blank c) (is_line_end c) end) refl))
+
+-- nor are blanks and a note
+blanks_then_mark : (o : ParseOption) (w : Text) (m : ℕ) (s blanks key : Text) → list_all is_blank w ≡ true
+    → is_blank m ≡ false → begins_note o m ≡ true → list_all is_blank blanks ≡ true
+    → BeginsWith (begins_indented_key o) key → w ++ m ∷ s ≢ blanks ++ key
+blanks_then_mark o [] m s [] (k ∷ key) all apart note blank starts is =
+    let same : m ≡ k = cc in
+    let bracket = k == open_bracket in
+    absurd (both_ways (begins_indented_key o k) (ap not (or_right (is_blank k || is_line_end k || bracket) _
+    (subst (λ c. begins_note o c ≡ true) same note))) starts)
+blanks_then_mark o w m s [] [] all apart note blank starts is = absurd (false≢true (sym starts))
+blanks_then_mark o (c ∷ w) m s [] (k ∷ key) all apart note blank starts is =
+    let same : c ≡ k = cc in
+    let blank_there = subst (λ c. is_blank c ≡ true) same (and_parts (is_blank c) _ all).0 in
+    blanks_no_key o (k ∷ []) (and_from (is_blank k || is_line_end k) true
+    (or_left (is_blank k) (is_line_end k) blank_there) refl) starts
+blanks_then_mark o [] m s (b ∷ blanks) key all apart note blank starts is =
+    let same : m ≡ b = cc in
+    both_ways (is_blank b) (subst (λ c. is_blank c ≡ false) same apart) (and_parts (is_blank b) _ blank).0
+blanks_then_mark o (c ∷ w) m s (b ∷ blanks) key all apart note blank starts is =
+    let rest : w ++ m ∷ s ≡ blanks ++ key = cc in
+    blanks_then_mark o w m s blanks key (and_parts (is_blank c) _ all).1 apart note
+    (and_parts (is_blank b) _ blank).1 starts rest
+
+pub mark_source_no_key : {o : ParseOption} (w : Text) (m : ℕ) (s : Text) → list_all is_blank w ≡ true
+    → o.enabled_indented_comment ≡ true → is_comment_mark m ≡ true → ¬ IsIndentedKey o (w ++ m ∷ s)
+mark_source_no_key {o} w m s all on mark key =
+    blanks_then_mark o w m s key.blanks key.key all (comment_mark-apart m mark).0
+    (and_from o.enabled_indented_comment (is_comment_mark m) on mark) key.blank key.begins key.whole
 
 -- only a backslash takes what follows it
 pub no_escape : (o : ParseOption) (e : Ending) (X : List ℕ) (c : ℕ) → eqb c backslash ≡ false

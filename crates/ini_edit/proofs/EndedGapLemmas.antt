@@ -8,8 +8,10 @@ use Rattle.ini_text.specs.Grammar.CharacterKinds.{BeginsWith, BeginsWithNo, is_b
 use Rattle.ini_text.specs.Grammar.CharacterKinds.{is_line_end, is_line_feed, line_feed, open_bracket}
 use Rattle.ini_text.specs.Grammar.Elements.{Element, Gap}
 use Rattle.ini_text.specs.Grammar.Keys.{Indentation, begins_indented_key}
+use Rattle.ini_text.specs.Grammar.Lines.{Note}
 use Rattle.ini_text.specs.Grammar.Pieces.{ArePieces, Piece, pieces_items, pieces_text}
 use Rattle.ini_text.specs.Grammar.Positions.{last_or}
+use Rattle.ini_text.specs.Grammar.Strings.{Closes, plain_ends}
 use Rattle.ini_text.specs.Laws.PieceLaws.{BeginAlike}
 use Rattle.ini_text.specs.declared.option.ParseOption.{ParseOption}
 use Rattle.ini_text.proofs.LawLemmas.LocalLemmas.{Element-before}
@@ -22,7 +24,8 @@ use Rattle.ini_edit.proofs.DroppedKeyLemmas.{AreKeyless}
 use Rattle.ini_edit.proofs.EndingLemmas.{no_feed_by}
 use Rattle.ini_edit.proofs.GapLemmas.{empty_front, gap_join}
 use Rattle.ini_edit.proofs.GapPartLemmas.{all_last, no_blank_end}
-use Rattle.ini_edit.proofs.QuietLemmas.{Quiet, Tail, as_quiet, free}
+use Rattle.ini_edit.proofs.QuietLemmas.{Quiet, Tail, as_quiet, free, note_before, note_element}
+use Rattle.ini_edit.proofs.QuietLemmas.{note_within}
 use Rattle.ini_edit.proofs.SectionTakenLemmas.{IsFeed}
 
 abbrev is_other : ℕ → Bool
@@ -43,12 +46,26 @@ comment_last m s mark all feed =
     (not-true _ (all_last is_other m s (and_from (is_other m) (list_all is_other s)
     (ap not no_feed) all))) feed)
 
+note_last : {X : Type 0} (c : ℕ) (w : Text) {s r : Text} → Note s r → is_line_feed (last_or c (w ++ s)) ≡ true
+    → X
+note_last c w (Note.note {m} {s} mark all closes) feed =
+    let last : is_line_feed (last_or m s) ≡ true =
+    ap is_line_feed (sym (last_or-append c w (m ∷ s))) ∙ feed in
+    let within = note_within (Note.note {m = m} {s = s} {r = []} mark all refl) in
+    absurd (both_ways (is_line_end (last_or m s))
+    (not-true _ (all_last (λ c. not (is_line_end c)) m s within))
+    (or_left (is_line_feed (last_or m s)) _ last))
+
+pub feed_closes_plain : {l : Text} (x : Text) → IsFeed l → Closes plain_ends (l ++ x)
+feed_closes_plain x IsFeed.lf = refl
+feed_closes_plain x IsFeed.cr_lf = refl
+
 no_bracket : {X : Type 0} (r : Text) → BeginsWithNo (λ c. c == open_bracket) (open_bracket ∷ r) → X
 no_bracket r h = absurd (false≢true (sym h))
 
-key_there : {w : Text} (s : Text) {b : Text} → Indentation b w → BeginsWith begins_indented_key s
-    → IsIndentedKey (w ++ s)
-key_there {w} s i begins = record {
+key_there : {o : ParseOption} {w : Text} (s : Text) {b : Text} → Indentation b w
+    → BeginsWith (begins_indented_key o) s → IsIndentedKey o (w ++ s)
+key_there {w = w} s i begins = record {
   blanks = w;
   key = s;
   whole = refl;
@@ -92,7 +109,7 @@ module _ {o : ParseOption} where
       (one_gap (Element.comment (s ++ 0x0D ∷ []) one mark
       (list_all-append is_other s (0x0D ∷ []) ∙ and_from (list_all is_other s) true all refl)))
 
-  quiet_ended : {c : ℕ} {s y l : Text} (x : Text) → IsFeed l → Quiet o (c ∷ []) s y → ¬ IsIndentedKey s
+  quiet_ended : {c : ℕ} {s y l : Text} (x : Text) → IsFeed l → Quiet o (c ∷ []) s y → ¬ IsIndentedKey o s
       → BeginsWithNo (λ c. c == open_bracket) y → IsGap o c (s ++ l) x
   quiet_ended {l = l} x feed (Quiet.anywhere e) key other = gap_after (free (l ++ x) e) (feed_gap feed)
   quiet_ended x feed (Quiet.before_header {r = r} i) key other = no_bracket r other
@@ -100,10 +117,13 @@ module _ {o : ParseOption} where
       comment_ended s feed one mark all
   quiet_ended x feed (Quiet.at_end (Tail.blanks i)) key other = blanks_ended feed i
   quiet_ended x feed (Quiet.at_end (Tail.key s i begins)) key other = absurd (key (key_there s i begins))
+  quiet_ended {l = l} x feed (Quiet.at_line_end on front remark) key other =
+      gap_after (note_element on front (note_before (l ++ x) (feed_closes_plain x feed) remark))
+      (feed_gap feed)
 
   -- elements with a line end after them
   pub pieces_ended : {c : ℕ} {y l : Text} (x : Text) (ps : List Piece) → IsFeed l → pieces_items ps ≡ []
-      → AreKeyless ps → BeginsWithNo (λ c. c == open_bracket) y → ArePieces o c ps y
+      → AreKeyless o ps → BeginsWithNo (λ c. c == open_bracket) y → ArePieces o c ps y
       → IsGap o c (pieces_text ps ++ l) x
   pieces_ended x [] feed empty keyless other are = feed_gap feed
   pieces_ended {c} {y} {l} x (p ∷ ps) feed empty keyless other (ArePieces.more e rest) =
@@ -120,7 +140,7 @@ module _ {o : ParseOption} where
           (subst (Element o (c ∷ []) p.source ((d ∷ t) ++ y)) empty e)) g
 
   -- an element that ends with LF
-  quiet_stands : {c : ℕ} {s y : Text} (x : Text) → Quiet o (c ∷ []) s y → ¬ IsIndentedKey s
+  quiet_stands : {c : ℕ} {s y : Text} (x : Text) → Quiet o (c ∷ []) s y → ¬ IsIndentedKey o s
       → is_line_feed (last_or c s) ≡ true → Element o (c ∷ []) s x []
   quiet_stands x (Quiet.anywhere e) key feed = free x e
   quiet_stands {c} x (Quiet.before_header {w = w} i) key feed = blank_last c w i.some i.blank feed
@@ -128,8 +148,9 @@ module _ {o : ParseOption} where
       comment_last m s mark all feed
   quiet_stands {c} x (Quiet.at_end (Tail.blanks {w = w} i)) key feed = blank_last c w i.some i.blank feed
   quiet_stands x (Quiet.at_end (Tail.key s i begins)) key feed = absurd (key (key_there s i begins))
+  quiet_stands {c} x (Quiet.at_line_end {w = w} on front remark) key feed = note_last c w remark feed
 
-  pieces_stand : {c : ℕ} {y : Text} (x : Text) (ps : List Piece) → pieces_items ps ≡ [] → AreKeyless ps
+  pieces_stand : {c : ℕ} {y : Text} (x : Text) (ps : List Piece) → pieces_items ps ≡ [] → AreKeyless o ps
       → is_line_feed (last_or c (pieces_text ps)) ≡ true → ArePieces o c ps y → ArePieces o c ps x
   pieces_stand x [] empty keyless feed ArePieces.none = ArePieces.none
   pieces_stand {c} {y} x (p ∷ ps) empty keyless feed (ArePieces.more e rest) =
@@ -147,7 +168,7 @@ module _ {o : ParseOption} where
       at (d ∷ t) empty feed e = Element-before BeginAlike.character e
 
   -- elements that end with LF
-  pub gap_stands : {c : ℕ} {y : Text} (x : Text) (ps : List Piece) → pieces_items ps ≡ [] → AreKeyless ps
+  pub gap_stands : {c : ℕ} {y : Text} (x : Text) (ps : List Piece) → pieces_items ps ≡ [] → AreKeyless o ps
       → is_line_feed (last_or c (pieces_text ps)) ≡ true → ArePieces o c ps y → IsGap o c (pieces_text ps) x
   gap_stands x ps empty keyless feed are = record {
     pieces = ps;

@@ -47,6 +47,12 @@ next_inner o Ending.escape c h = refl
 next_inner o Ending.inside c h = rw (h.no_backslash, h.no_line_feed) refl
 next_inner o Ending.line c h = rw (h.no_backslash, h.no_line_feed) refl
 
+-- how one text ends after another
+pub ending_from-append : (o : ParseOption) (e : Ending) (x y : List ℕ)
+    → ending_from o e (x ++ y) ≡ ending_from o (ending_from o e x) y
+ending_from-append o e [] y = refl
+ending_from-append o e (c ∷ x) y = ending_from-append o (next_ending o e c) x y
+
 -- after such a character the text ends as what follows it does
 pub ending-after : (o : ParseOption) (e : Ending) (X : List ℕ) (c : ℕ) (z : List ℕ) → IsInner o c
     → ending_from o e (X ++ c ∷ z) ≡ ending_from o Ending.inside z

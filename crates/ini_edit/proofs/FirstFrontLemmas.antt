@@ -20,7 +20,7 @@ use Rattle.ini_edit.specs.SourceLines.{after_comments, after_line, after_line_en
 use Rattle.ini_edit.specs.SourceLines.{are_comments, is_empty, is_in_comment}
 use Rattle.ini_edit.proofs.CommentRowLemmas.{IsNewLine, comments_ended}
 use Rattle.ini_edit.proofs.CommentRowLemmas.{comments_whole}
-use Rattle.ini_edit.proofs.GapLemmas.{empty_front, gap_join, pieces_column}
+use Rattle.ini_edit.proofs.GapLemmas.{CommentPlace, empty_front, gap_join, pieces_place}
 use Rattle.ini_edit.proofs.GapPartLemmas.{gap_nothing}
 use Rattle.ini_edit.proofs.QuietLemmas.{as_quiet, quiet_front, white_within}
 use Rattle.ini_edit.proofs.SourceAddLemmas.{line_ends_gap}
@@ -215,8 +215,8 @@ comments_glued {e} t end all = by (is_column_one t) refl
     by false inner =
         comments_ended false line_feed t end (λ no. absurd (false≢true (sym no))) inner all
 
--- a gap that begins with comment lines stands in column one
-pub comments_in_column : {o : ParseOption} {c : ℕ} {gap r : Text} (f rest : Text) → f ++ rest ≡ gap
-    → BeginsWith is_comment_mark (f ++ rest) → IsGap o c gap r → is_line_feed c ≡ true
-comments_in_column f rest whole mark h =
-    pieces_column h.pieces h.are (subst (BeginsWith is_comment_mark) (whole ∙ h.whole) mark)
+-- where a gap stands that begins with comment lines
+pub comments_place : {o : ParseOption} {c : ℕ} {gap r : Text} (f rest : Text) → f ++ rest ≡ gap
+    → BeginsWith is_comment_mark (f ++ rest) → IsGap o c gap r → CommentPlace o (c ∷ [])
+comments_place f rest whole mark h =
+    pieces_place h.pieces h.are (subst (BeginsWith is_comment_mark) (whole ∙ h.whole) mark)

@@ -8,16 +8,16 @@ use Rattle.std.proofs.lemmas.Bool.{not-false, not-true, or_cases, or_left, or_pa
 use Rattle.std.specs.List.{list_all}
 use Rattle.std.specs.Option.{option_or}
 use Rattle.ini_text.specs.Grammar.CharacterKinds.{BeginsWith, BeginsWithNo, carriage_return, is_blank}
-use Rattle.ini_text.specs.Grammar.CharacterKinds.{is_line_end, is_line_feed, line_feed}
+use Rattle.ini_text.specs.Grammar.CharacterKinds.{is_comment_mark, is_line_end, is_line_feed, line_feed}
 use Rattle.ini_text.specs.Grammar.CharacterKinds.{open_bracket}
 use Rattle.ini_text.specs.Grammar.Elements.{Element, Header}
-use Rattle.ini_text.specs.Grammar.Pieces.{ArePieces}
+use Rattle.ini_text.specs.Grammar.Pieces.{ArePieces, pieces_text}
 use Rattle.ini_text.specs.Grammar.Positions.{is_column_one, last_or}
 use Rattle.ini_text.specs.Grammar.Strings.{Closes, Str, bracketed_name_ends}
 use Rattle.ini_text.specs.Grammar.Values.{MoreLines}
 use Rattle.ini_text.specs.Parsing.Fronts.{front_of}
 use Rattle.ini_text.specs.declared.option.ParseOption.{ParseOption}
-use Rattle.ini_text.proofs.LawLemmas.PieceLemmas.{last_or-append}
+use Rattle.ini_text.proofs.LawLemmas.PieceLemmas.{last_or-append, pieces_split, pieces_text-append}
 use Rattle.ini_text.proofs.StringLemmas.FrontLemmas.{front_grows, front_is}
 use Rattle.ini_text.proofs.StringLemmas.ScanLemmas.{last_or_append}
 use Rattle.ini.specs.Texts.{Text}
@@ -56,10 +56,25 @@ pub record IsFreePlace (o : ParseOption) (c : ℕ) (r : Text) (p : GapPlace) : T
 
 -- what stands around the gap: the section's header or nothing, and what follows the section
 pub record StandsIn (is_general is_last : Bool) (c : ℕ) (gap r : Text) : Type 0 where
-  pub general : is_general ≡ true → is_line_end c ≡ true
+  pub general : is_general ≡ true → is_line_feed c ≡ true
   pub named : is_general ≡ false → (is_line_end c ≡ false) ⊎ BeginsWith is_line_end gap
   pub last : is_last ≡ true → r ≡ []
   pub apart : BeginsWithNo is_blank_or_line_end r
+
+-- a comment directly after the header's line stands behind that
+pub header_feed : (gap : Text) (c : ℕ) → BeginsWith is_comment_mark (after_line gap)
+    → is_column_one (front_of gap (after_line gap)) ≡ true
+    → is_line_feed (last_or c (front_of gap (after_line gap))) ≡ true
+header_feed gap c mark one =
+    let line = line_of gap in
+    at (front_of gap (after_line gap)) (front_is line.0 (after_line gap) gap line.1.whole) line.1.ends one
+  where
+    at : (f : Text) → f ≡ (line_of gap).0
+        → (after_line gap ≡ []) ⊎ ((d : ℕ) → is_line_end (last_or d (line_of gap).0) ≡ true)
+        → is_column_one f ≡ true → is_line_feed (last_or c f) ≡ true
+    at f is (inl none) one = absurd (false≢true (sym (subst (BeginsWith is_comment_mark) none mark)))
+    at [] is (inr end) one = absurd (false≢true (ap (λ u. is_line_end (last_or 0 u)) is ∙ end 0))
+    at (x ∷ f) is (inr end) one = one
 
 module _ {o : ParseOption} {c : ℕ} {gap r : Text} where
   of_parts : {m : Text} (starts : Bool) → AreParts o c gap m r
@@ -113,7 +128,7 @@ module _ {o : ParseOption} {c : ℕ} {gap r : Text} where
 
   comments_stand : (is_line_end c ≡ false) ⊎ BeginsWith is_line_end gap → IsGap o c gap r
       → IsFirstPlace o c gap r (after_header_comments gap)
-  comments_stand named h = by (is_empty comments) refl
+  comments_stand named h = by (is_empty comments || not (is_column_one (front_of gap line))) refl
     where
       line : Text
       line = after_line gap
@@ -124,24 +139,38 @@ module _ {o : ParseOption} {c : ℕ} {gap r : Text} where
       comments : Text
       comments = front_of line rest
 
-      cut : IsCut h.pieces rest
-      cut =
+      cut : is_column_one (front_of gap line) ≡ true → IsCut h.pieces rest
+      cut one =
           let first = header_cut named h in
           let gap_rest = cut_rest_gap h.pieces h.are h.nothing first in
-          cut_on first (subst (λ t. IsCut first.rest (after_comments false t)) gap_rest.text
-          (comment_cut first.rest gap_rest.are gap_rest.nothing))
+          let whole : pieces_text first.front ++ line ≡ gap =
+          ap (λ t. pieces_text first.front ++ t) (sym first.text)
+          ∙ sym (pieces_text-append first.front first.rest)
+          ∙ ap pieces_text (sym first.whole) ∙ sym h.whole in
+          let is = front_is (pieces_text first.front) line gap whole in
+          let are = (pieces_split first.front first.rest (subst (λ l. ArePieces o c l r)
+          first.whole h.are)).1 in
+          cut_on first (subst (λ t. IsCut first.rest (after_comments false t)) first.text
+          (comment_cut first.rest are gap_rest.nothing (λ mark.
+          subst (λ f. is_line_feed (last_or c f) ≡ true) is
+          (header_feed gap c (subst (BeginsWith is_comment_mark) first.text mark) one))))
 
       grown : front_of gap rest ≡ front_of gap line ++ comments
       grown = (front_grows gap line comments rest (after_line-rest gap) (sym
           (after_comments-rest false line))).0
 
-      by : (b : Bool) → is_empty comments ≡ b → IsFirstPlace o c gap r (after_header_comments gap)
+      by : (b : Bool) → (is_empty comments || not (is_column_one (front_of gap line))) ≡ b
+          → IsFirstPlace o c gap r (after_header_comments gap)
       by true none =
-          subst (IsFirstPlace o c gap r) (sym (cond-true (is_empty comments) (after_header gap) _ none))
+          subst (IsFirstPlace o c gap r) (sym (cond-true
+          (is_empty comments || not (is_column_one (front_of gap line))) (after_header gap) _ none))
           (after_header_stands named h)
-      by false some =
-          subst (IsFirstPlace o c gap r) (sym (cond-false (is_empty comments) (after_header gap) _ some))
-          (of_parts (is_column_one comments) (cut_gap h cut)
+      by false both =
+          let parts = or_parts (is_empty comments) (not (is_column_one (front_of gap line))) both in
+          let some = parts.0 in
+          subst (IsFirstPlace o c gap r) (sym (cond-false
+          (is_empty comments || not (is_column_one (front_of gap line))) (after_header gap) _ both))
+          (of_parts (is_column_one comments) (cut_gap h (cut (not-false _ parts.1)))
           (λ column. ap (λ u. is_line_end (last_or c u)) grown
           ∙ ap is_line_end (last_or-append c (front_of gap line) comments
           ∙ last_if_some (last_or c (front_of gap line)) line_feed comments some)
@@ -162,8 +191,8 @@ module _ {o : ParseOption} {c : ℕ} {gap r : Text} where
               absurd (both_ways (is_column_one f) other
               (ap (λ u. is_line_feed (last_or line_feed u)) is ∙ end line_feed))
 
-  licence_stands : is_line_end c ≡ true → IsGap o c gap r → IsFirstPlace o c gap r (after_licence gap)
-  licence_stands end h = by (is_empty (front_of gap rest) || (is_empty line || not
+  licence_stands : is_line_feed c ≡ true → IsGap o c gap r → IsFirstPlace o c gap r (after_licence gap)
+  licence_stands feed h = by (is_empty (front_of gap rest) || (is_empty line || not
       (is_column_one line))) refl
     where
       rest : Text
@@ -175,7 +204,7 @@ module _ {o : ParseOption} {c : ℕ} {gap r : Text} where
       cut : IsCut h.pieces (after_line_end rest)
       cut =
           let first = subst (λ t. IsCut h.pieces (after_comments false t)) (sym h.whole)
-          (comment_cut h.pieces h.are h.nothing) in
+          (comment_cut h.pieces h.are h.nothing (λ _. feed)) in
           let gap_rest = cut_rest_gap h.pieces h.are h.nothing first in
           cut_on first (subst (λ t. IsCut first.rest (after_line_end t)) gap_rest.text
           (end_cut first.rest gap_rest.are gap_rest.nothing))
@@ -190,7 +219,7 @@ module _ {o : ParseOption} {c : ℕ} {gap r : Text} where
           subst (IsFirstPlace o c gap r) (sym (cond-true
           (is_empty (front_of gap rest) || (is_empty line || not (is_column_one line)))
           (at_front gap) _ none))
-          (at_front_stands end h)
+          (at_front_stands (or_left (is_line_feed c) _ feed) h)
       by false some =
           let both = or_parts (is_empty line) (not (is_column_one line)) (or_parts _ _ some).1 in
           subst (IsFirstPlace o c gap r) (sym (cond-false
@@ -247,7 +276,7 @@ no_lines_after : (gap : Text) → (after_header_comments gap).lines ≡ []
 no_lines_after gap =
     let rest = after_comments false (after_line gap) in
     let comments = front_of (after_line gap) rest in
-    cond_both (is_empty comments) (after_header gap)
+    cond_both (is_empty comments || not (is_column_one (front_of gap (after_line gap)))) (after_header gap)
     (record { before = front_of gap rest; starts = is_column_one comments; lines = []; after = rest })
     (λ p. p.lines ≡ []) (λ _. refl) (λ _. refl)
 
@@ -432,9 +461,10 @@ module _ {o : ParseOption} {is_general is_last : Bool} {c : ℕ} {gap r : Text}
 pub first_stands : {o : ParseOption} (is_general is_last : Bool) {c : ℕ} {gap r : Text} {q : GapPlace}
     → StandsIn is_general is_last c gap r → IsGap o c gap r → first_place o is_general is_last gap ≡ Some q
     → IsFirstPlace o c gap r q × (o.enabled_indented_mutiline_value ≡ true → IsFreePlace o c r q)
-first_stands {o} true is_last {gap = gap} {q = q} around h is =
+first_stands {o} true is_last {c = c} {gap = gap} {q = q} around h is =
+    let line = or_left (is_line_feed c) _ (around.general refl) in
     chosen around (after_licence gap) (at_front gap) q (no_lines_wanted gap) refl
-    (licence_stands (around.general refl) h) (at_front_stands (around.general refl) h)
+    (licence_stands (around.general refl) h) (at_front_stands line h)
     o.enabled_indented_mutiline_value is
 first_stands {o} false is_last {gap = gap} {q = q} around h is =
     chosen around (after_header_comments gap) (after_header gap) q (no_lines_after gap) refl

@@ -2,7 +2,8 @@
 use Rattle.std.proofs.Common.{◌≡◌, ◌∙◌, ◌⊎◌, ◌&&◌, ◌||◌, ℕ, Bool, true, false, cond, not, [], ◌∷◌, ◌++◌}
 use Rattle.std.proofs.Common.{None}
 use Rattle.std.proofs.Common.{Option, Some, ap, append_assoc, append-nil, inl, inr, refl, subst, sym}
-use Rattle.std.proofs.lemmas.Bool.{and_from, both_ways, cond-false, cond-true, false≢true, or_parts}
+use Rattle.std.proofs.lemmas.Bool.{and_from, both_ways, cond-false, cond-true, false≢true, not-false}
+use Rattle.std.proofs.lemmas.Bool.{or_parts}
 use Rattle.std.proofs.lemmas.List.Folds.{list_all-append}
 use Rattle.std.specs.List.{list_all}
 use Rattle.std.specs.Option.{option_or}
@@ -22,10 +23,10 @@ use Rattle.ini_edit.specs.SourceLines.{after_blank_lines, after_comments, after_
 use Rattle.ini_edit.specs.SourceLines.{blanks_at_end, has_lone_return, is_empty, is_in_comment}
 use Rattle.ini_edit.specs.SourceLines.{line_end_at_end}
 use Rattle.ini_edit.proofs.CommentRowLemmas.{IsNewLine, comments_gap, comments_whole}
-use Rattle.ini_edit.proofs.FirstFrontLemmas.{comment_front, comments_glued, comments_in_column, end_front}
+use Rattle.ini_edit.proofs.FirstFrontLemmas.{comment_front, comments_glued, end_front}
 use Rattle.ini_edit.proofs.FirstFrontLemmas.{line_any, line_some}
-use Rattle.ini_edit.proofs.FirstPlaceLemmas.{StandsIn, header_cut}
-use Rattle.ini_edit.proofs.GapCutLemmas.{blanks_there, cut_gap}
+use Rattle.ini_edit.proofs.FirstPlaceLemmas.{StandsIn, header_feed}
+use Rattle.ini_edit.proofs.GapCutLemmas.{blanks_there}
 use Rattle.ini_edit.proofs.GapLemmas.{EndsThere, gap_join, white_gap}
 use Rattle.ini_edit.proofs.GapPartLemmas.{gap_nothing}
 use Rattle.ini_edit.proofs.LineFrontLemmas.{comments_of, end_ends}
@@ -108,7 +109,7 @@ module _ {o : ParseOption} {c : ℕ} {gap e : Text} (end : IsNewLine e) where
 
   comments_stay : {r : Text} → (is_line_end c ≡ false) ⊎ BeginsWith is_line_end gap → IsGap o c gap r
       → Stays o c e (after_header_comments gap)
-  comments_stay named h x = by (is_empty comments) refl
+  comments_stay named h x = by (is_empty comments || not (is_column_one (front_of gap line))) refl
     where
       line : Text
       line = after_line gap
@@ -126,23 +127,27 @@ module _ {o : ParseOption} {c : ℕ} {gap e : Text} (end : IsNewLine e) where
       grown = (front_grows gap line comments rest (after_line-rest gap) (sym
           (after_comments-rest false line))).0
 
-      by : (b : Bool) → is_empty comments ≡ b → IsGap o c (front_ended e (after_header_comments gap)) x
+      by : (b : Bool) → (is_empty comments || not (is_column_one (front_of gap line))) ≡ b
+          → IsGap o c (front_ended e (after_header_comments gap)) x
       by true none =
-          subst (λ p. IsGap o c (front_ended e p) x) (sym (cond-true (is_empty comments) _ _ none))
+          subst (λ p. IsGap o c (front_ended e p) x)
+          (sym (cond-true (is_empty comments || not (is_column_one (front_of gap line))) _ _ none))
           (header_stays named h x)
-      by false some =
-          let parts = cut_gap h (header_cut named h) in
-          let feed = comments_in_column comments rest (after_comments-rest false line)
-          (begins_mark comments rest some (comments_all line)) parts.rest in
+      by false both =
+          let parts = or_parts (is_empty comments) _ both in
+          let feed = header_feed gap c
+          (subst (BeginsWith is_comment_mark) (after_comments-rest false line)
+          (begins_mark comments rest parts.0 (comments_all line))) (not-false _ parts.1) in
           let all : IsGap o c (front_of gap line ++ (comments ++ glue)) x =
           gap_join (line_any named h)
           (comments_gap (comments ++ glue) feed (comments_glued comments end (comments_all line))) in
-          subst (λ p. IsGap o c (front_ended e p) x) (sym (cond-false (is_empty comments) _ _ some))
+          subst (λ p. IsGap o c (front_ended e p) x)
+          (sym (cond-false (is_empty comments || not (is_column_one (front_of gap line))) _ _ both))
           (subst (λ t. IsGap o c t x)
           (sym (append_assoc (front_of gap line) comments glue) ∙ ap (λ t. t ++ glue) (sym grown)) all)
 
-  licence_stays : {r : Text} → IsGap o c gap r → Stays o c e (after_licence gap)
-  licence_stays h x = by (is_empty comments || (is_empty line || not (is_column_one line))) refl
+  licence_stays : {r : Text} → IsGap o c gap r → is_line_feed c ≡ true → Stays o c e (after_licence gap)
+  licence_stays h feed x = by (is_empty comments || (is_empty line || not (is_column_one line))) refl
     where
       rest : Text
       rest = after_comments false gap
@@ -190,8 +195,6 @@ module _ {o : ParseOption} {c : ℕ} {gap e : Text} (end : IsNewLine e) where
       by false there =
           let some = or_parts (is_empty comments) _ there in
           let more = or_parts (is_empty line) _ some.1 in
-          let feed = comments_in_column comments rest (after_comments-rest false gap)
-          (begins_mark comments rest some.0 (comments_all gap)) h in
           let are = comments_whole false line_feed comments (λ _. refl) (ended some.0 more.0)
           (comments_all gap) in
           let all : IsGap o c (comments ++ line) x =
@@ -279,7 +282,7 @@ first_stays {o} {c} {gap} {r} {e} end true is_last q around h is =
     (λ p. freed_stays e is_last p q)
     (λ past. past_stays end gap q past (ap (λ t. t ++ gap) (front_of_all gap))
     (λ x. subst (λ t. IsGap o c t x) (sym (front_of_all gap)) gap_nothing))
-    (licence_stays end h) (front_stays e gap)
+    (licence_stays end h (around.general refl)) (front_stays e gap)
     o.enabled_indented_mutiline_value is
 first_stays {o} {c} {gap} {r} {e} end false is_last q around h is =
     chosen_holds gap (Stays o c e) is_last (after_header_comments gap)
@@ -301,7 +304,7 @@ pub first_some : (o : ParseOption) (is_last : Bool) (gap : Text) (q : GapPlace) 
     → first_place o false is_last gap ≡ Some q → is_empty q.before ≡ false
 first_some o is_last gap q begins is =
     chosen_holds gap HasFront is_last (after_header_comments gap) (after_header gap) q freed_some past_some
-    (by (is_empty comments) refl) (line_some gap begins) o.enabled_indented_mutiline_value is
+    (by (is_empty comments || not (is_column_one (front_of gap line))) refl) (line_some gap begins) o.enabled_indented_mutiline_value is
   where
     line : Text
     line = after_line gap
@@ -317,11 +320,15 @@ first_some o is_last gap q begins is =
         ap is_empty (front_grows gap line lines later (after_line-rest gap) whole).0
         ∙ some_more (front_of gap line) lines (line_some gap begins)
 
-    by : (b : Bool) → is_empty comments ≡ b → HasFront (after_header_comments gap)
+    by : (b : Bool) → (is_empty comments || not (is_column_one (front_of gap line))) ≡ b
+        → HasFront (after_header_comments gap)
     by true none =
-        subst HasFront (sym (cond-true (is_empty comments) _ _ none)) (line_some gap begins)
+        subst HasFront
+        (sym (cond-true (is_empty comments || not (is_column_one (front_of gap line))) _ _ none))
+        (line_some gap begins)
     by false some =
-        subst HasFront (sym (cond-false (is_empty comments) _ _ some))
+        subst HasFront
+        (sym (cond-false (is_empty comments || not (is_column_one (front_of gap line))) _ _ some))
         (more comments rest (sym (after_comments-rest false line)))
 
     freed_some : (p : GapPlace) → freed is_last p ≡ Some q → HasFront p → HasFront q

@@ -1,6 +1,7 @@
 -- Gaps cut where the words for lines cut them: after a header's own line, after a line end, after comments,
 -- and after blank lines. Each is an end of an element.
-use Rattle.std.proofs.Common.{◌≡◌, ◌∙◌, ◌≤◌, ◌⊎◌, ◌==◌, ℕ, Bool, true, false, cond, not, List, [], ◌∷◌, ◌++◌}
+use Rattle.std.proofs.Common.{◌≡◌, ◌∙◌, ◌≤◌, ◌⊎◌, ◌==◌, ◌||◌, ℕ, Bool, true, false, cond, not, List, []}
+use Rattle.std.proofs.Common.{◌∷◌, ◌++◌}
 use Rattle.std.proofs.Common.{ap, append_assoc, append-nil, arith, eqb-true, inl, inr, length, refl, subst}
 use Rattle.std.proofs.Common.{sym}
 use Rattle.std.proofs.lemmas.Bool.{and_from, and_parts, both_ways, cond-false, cond-true, false≢true}
@@ -11,14 +12,16 @@ use Rattle.ini_text.specs.Grammar.CharacterKinds.{BeginsWith, BeginsWithNo, carr
 use Rattle.ini_text.specs.Grammar.CharacterKinds.{is_comment_mark, is_line_end, is_line_feed, line_feed}
 use Rattle.ini_text.specs.Grammar.CharacterKinds.{open_bracket}
 use Rattle.ini_text.specs.Grammar.Elements.{Given}
-use Rattle.ini_text.specs.Grammar.Keys.{begins_indented_key}
+use Rattle.ini_text.specs.Grammar.Keys.{begins_indented_key, begins_note}
+use Rattle.ini_text.specs.Grammar.Lines.{Note}
 use Rattle.ini_text.specs.Grammar.Pieces.{ArePieces, Piece, pieces_items, pieces_text}
 use Rattle.ini_text.specs.Grammar.Positions.{last_or}
 use Rattle.ini_text.specs.Parsing.Fronts.{front_of}
 use Rattle.ini_text.specs.declared.option.ParseOption.{ParseOption}
 use Rattle.ini_text.proofs.GrammarLemmas.ItemLemmas.{element-some}
 use Rattle.ini_text.proofs.GrammarLemmas.KindLemmas.{comment_mark-apart}
-use Rattle.ini_text.proofs.LawLemmas.PieceLemmas.{pieces_items-append, pieces_split, pieces_text-append}
+use Rattle.ini_text.proofs.LawLemmas.PieceLemmas.{last_or-append, pieces_items-append, pieces_split}
+use Rattle.ini_text.proofs.LawLemmas.PieceLemmas.{pieces_text-append}
 use Rattle.ini_text.proofs.StringLemmas.FrontLemmas.{front_is}
 use Rattle.ini.specs.Texts.{Text}
 use Rattle.ini_edit.specs.Inside.Spans.{IsGap}
@@ -27,8 +30,8 @@ use Rattle.ini_edit.specs.SourceLines.{after_blank_lines, after_comments, after_
 use Rattle.ini_edit.specs.SourceLines.{after_line_feed, blanks_at_end}
 use Rattle.ini_edit.proofs.CommentLemmas.{marked_comment}
 use Rattle.ini_edit.proofs.GapLemmas.{empty_front, line_end_element}
-use Rattle.ini_edit.proofs.QuietLemmas.{Free, IsComment, Quiet, Tail, as_quiet, quiet_front, white_within}
-use Rattle.ini_edit.proofs.SourceSetLemmas.{line_end_no_mark}
+use Rattle.ini_edit.proofs.QuietLemmas.{Free, IsComment, NoteFront, Quiet, Tail, as_quiet, mark_no_end}
+use Rattle.ini_edit.proofs.QuietLemmas.{quiet_front, white_within}
 
 -- pieces, of which the text from one on is this
 pub record IsCut (ps : List Piece) (m : Text) : Type 0 where
@@ -235,40 +238,52 @@ none_after [] t h = refl
 none_after (x ∷ s) t h = absurd (let no : x ∷ (s ++ t) ≡ [] = h in cc)
 
 module _ {o : ParseOption} where
-  -- after comments
+  -- after comments, of which the first stands in column one
   pub comment_cut : {c : ℕ} {r : Text} (ps : List Piece) → ArePieces o c ps r → pieces_items ps ≡ []
+      → (BeginsWith is_comment_mark (pieces_text ps) → is_line_feed c ≡ true)
       → IsCut ps (after_comments false (pieces_text ps))
-  comment_cut [] are none = cut_here [] refl
-  comment_cut {c} {r} (p ∷ ps) (ArePieces.more e rest) none =
+  comment_cut [] are none column = cut_here [] refl
+  comment_cut {c} {r} (p ∷ ps) (ArePieces.more e rest) none column =
       at p.source refl (element-some e) (λ mark. marked_comment mark e)
       (comment_cut {c = last_or c p.source} ps rest (empty_front p.gives (pieces_items ps) none).1)
     where
-      over : {s z : Text} {gives : List Given} → IsComment (c ∷ []) s z gives → p.source ≡ s
-          → z ≡ pieces_text ps ++ r → IsCut ps (after_comments false (pieces_text ps))
+      Later : Type 0
+      Later = (BeginsWith is_comment_mark (pieces_text ps) → is_line_feed (last_or c p.source) ≡ true)
+          → IsCut ps (after_comments false (pieces_text ps))
+
+      over : {s z : Text} {gives : List Given} → IsComment o (c ∷ []) s z gives → p.source ≡ s
+          → z ≡ pieces_text ps ++ r → is_line_feed c ≡ true → Later
           → IsCut (p ∷ ps) (after_comments false (p.source ++ pieces_text ps))
-      over (IsComment.whole {m} s one mark all) is follows after =
+      over (IsComment.whole {m} s one mark all) is follows column after =
           cut_later p (sym (ap (λ t. after_comments false (t ++ pieces_text ps)) is
           ∙ begun m ((s ++ line_feed ∷ []) ++ pieces_text ps) mark
           ∙ ap (after_comments true) (append_assoc s (line_feed ∷ []) (pieces_text ps))
-          ∙ comment_line s (pieces_text ps) all)) after
-      over (IsComment.last {m} {s} one mark all) is follows after =
+          ∙ comment_line s (pieces_text ps) all))
+          (after (λ _. ap (λ t. is_line_feed (last_or c t)) is
+          ∙ ap is_line_feed (last_or-append m s (line_feed ∷ []))))
+      over (IsComment.last {m} {s} one mark all) is follows column after =
           let end : pieces_text ps ≡ [] = none_after (pieces_text ps) r (sym follows) in
           cut_later p (ap (after_comments false) end
           ∙ sym (ap (λ t. after_comments false (t ++ pieces_text ps)) is
           ∙ begun m (s ++ pieces_text ps) mark
           ∙ ap (λ t. after_comments true (s ++ t)) end
-          ∙ ap (after_comments true) (append-nil s) ∙ comment_to_end s all)) after
+          ∙ ap (after_comments true) (append-nil s) ∙ comment_to_end s all))
+          (after (λ mark. absurd (false≢true (sym (subst (BeginsWith is_comment_mark) end mark)))))
+      over (IsComment.after_cr on starts late remark) is follows column after =
+          absurd (both_ways (is_line_feed c) late column)
 
       at : (s : Text) → p.source ≡ s → 1 ≤ length s
-          → (BeginsWith is_comment_mark p.source → IsComment (c ∷ []) p.source (pieces_text ps ++ r) p.gives)
-          → IsCut ps (after_comments false (pieces_text ps))
-          → IsCut (p ∷ ps) (after_comments false (p.source ++ pieces_text ps))
+          → (BeginsWith is_comment_mark p.source
+          → IsComment o (c ∷ []) p.source (pieces_text ps ++ r) p.gives)
+          → Later → IsCut (p ∷ ps) (after_comments false (p.source ++ pieces_text ps))
       at [] is some comment after = absurd (omega arith)
       at (x ∷ s) is some comment after = by (is_comment_mark x) refl
         where
           by : (b : Bool) → is_comment_mark x ≡ b
               → IsCut (p ∷ ps) (after_comments false (p.source ++ pieces_text ps))
-          by true mark = over (comment (subst (BeginsWith is_comment_mark) (sym is) mark)) refl refl after
+          by true mark =
+              over (comment (subst (BeginsWith is_comment_mark) (sym is) mark)) refl refl
+              (column (subst (λ t. BeginsWith is_comment_mark (t ++ pieces_text ps)) (sym is) mark)) after
           by false other =
               cut_here (p ∷ ps) (sym (ap (λ t. after_comments false (t ++ pieces_text ps)) is
               ∙ cond-false (is_comment_mark x) _ _ other ∙ ap (λ t. t ++ pieces_text ps) (sym is)))
@@ -368,11 +383,13 @@ not_blank {x = x} {t = t} {lines = y ∷ lines} {rest = rest} other are =
 mark_other_kind : (m : ℕ) → is_comment_mark m ≡ true → is_blank_or_line_end m ≡ false
 mark_other_kind m mark =
     or_from (is_blank m) (is_line_end m) (comment_mark-apart m mark).0
-    (false_from_ne_true (is_line_end m)
-    (λ end. both_ways (is_comment_mark m) (line_end_no_mark m end) mark))
+    (mark_no_end m mark)
 
-key_other_kind : (c : ℕ) → begins_indented_key c ≡ true → is_blank_or_line_end c ≡ false
-key_other_kind c begins = (or_parts (is_blank_or_line_end c) (c == open_bracket) (not-true _ begins)).0
+key_other_kind : (o : ParseOption) (c : ℕ) → begins_indented_key o c ≡ true → is_blank_or_line_end c ≡ false
+key_other_kind o c begins =
+    let parts = or_parts (is_blank_or_line_end c || c == open_bracket) (begins_note o c)
+    (not-true _ begins) in
+    (or_parts (is_blank_or_line_end c) (c == open_bracket) parts.0).0
 
 blanks_are : (w : Text) → BeginsWith is_blank w → list_all is_blank w ≡ true → blanks_at_end w ≡ [] → ⊥
 blanks_are [] some all none = false≢true (sym some)
@@ -380,14 +397,14 @@ blanks_are (x ∷ w) some all none =
     let no : x ∷ w ≡ [] = sym (cond-true (list_all is_blank (x ∷ w)) (x ∷ w) (blanks_at_end w) all)
     ∙ none in cc
 
--- no key that the text's end cuts short is cut
-no_key_cut : (w s t lines rest : Text) → BeginsWith is_blank w → list_all is_blank w ≡ true
-    → BeginsWith begins_indented_key s → AreBlanks ((w ++ s) ++ t) lines rest → HasNoBlanks lines rest → ⊥
-no_key_cut w [] t lines rest some all begins are h = false≢true (sym begins)
-no_key_cut w (x ∷ s) t lines rest some all begins are h =
+-- no blanks are cut from what they indent
+no_indent_cut : (w : Text) (x : ℕ) (s t lines rest : Text) → BeginsWith is_blank w
+    → list_all is_blank w ≡ true → is_blank_or_line_end x ≡ false
+    → AreBlanks ((w ++ x ∷ s) ++ t) lines rest → HasNoBlanks lines rest → ⊥
+no_indent_cut w x s t lines rest some all apart are h =
     let found = own_blanks w ((x ∷ s) ++ t) lines rest (all_blank w all)
     (subst (λ u. AreBlanks u lines rest) (append_assoc w (x ∷ s) t) are) in
-    let other = not_blank (key_other_kind x begins) found.2 in
+    let other = not_blank apart found.2 in
     at found.0 found.1 found.2 other h
   where
     at : (more : Text) → lines ≡ w ++ more → AreBlanks (x ∷ (s ++ t)) more rest → rest ≡ x ∷ (s ++ t)
@@ -398,8 +415,15 @@ no_key_cut w (x ∷ s) t lines rest some all begins are h =
     at (y ∷ more) is are whole (inl none) =
         let first : x ∷ (s ++ t) ≡ y ∷ (more ++ rest) = are.whole in
         let same : y ≡ x = cc in
-        both_ways (is_blank_or_line_end x) (key_other_kind x begins)
+        both_ways (is_blank_or_line_end x) apart
         (subst (λ c. is_blank_or_line_end c ≡ true) same (and_parts _ _ are.all).0)
+
+-- as no key that the text's end cuts short
+no_key_cut : (o : ParseOption) (w s t lines rest : Text) → BeginsWith is_blank w → list_all is_blank w ≡ true
+    → BeginsWith (begins_indented_key o) s → AreBlanks ((w ++ s) ++ t) lines rest → HasNoBlanks lines rest → ⊥
+no_key_cut o w [] t lines rest some all begins are h = false≢true (sym begins)
+no_key_cut o w (x ∷ s) t lines rest some all begins are h =
+    no_indent_cut w x s t lines rest some all (key_other_kind o x begins) are h
 
 none_rest_after : (s t : Text) → s ++ t ≡ [] → t ≡ []
 none_rest_after [] t h = h
@@ -448,5 +472,10 @@ module _ {o : ParseOption} where
       over (Quiet.at_end (Tail.comment {m = m} one mark all)) is next = before is (mark_other_kind m mark)
       over (Quiet.at_end (Tail.blanks {w = w} i)) is next = within w is (all_blank w i.blank) next
       over (Quiet.at_end (Tail.key {w = w} s i begins)) is next =
-          absurd (no_key_cut w s (pieces_text ps) lines rest i.some i.blank begins
+          absurd (no_key_cut o w s (pieces_text ps) lines rest i.some i.blank begins
+          (subst (λ u. AreBlanks (u ++ pieces_text ps) lines rest) is blanks) h)
+      over (Quiet.at_line_end on (NoteFront.after_cr starts late) (Note.note {m} mark all closes)) is next =
+          before is (mark_other_kind m mark)
+      over (Quiet.at_line_end on (NoteFront.indented {w = w} i) (Note.note {m} {s} mark all closes)) is next =
+          absurd (no_indent_cut w m s (pieces_text ps) lines rest i.some i.blank (mark_other_kind m mark)
           (subst (λ u. AreBlanks (u ++ pieces_text ps) lines rest) is blanks) h)

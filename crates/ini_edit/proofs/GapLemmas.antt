@@ -1,5 +1,5 @@
 -- Gaps of a text in pieces: two that are one, one without its first line end, one of blanks and line ends,
--- and the column of a comment in one.
+-- and where a comment in one begins.
 use Rattle.std.proofs.Common.{◌≡◌, ◌≢◌, ◌∙◌, ◌≤◌, ◌||◌, ℕ, Bool, true, false, List, [], ◌∷◌}
 use Rattle.std.proofs.Common.{◌++◌, ap}
 use Rattle.std.proofs.Common.{append_assoc, arith, inl, inr, length, refl, subst, sym}
@@ -27,20 +27,26 @@ use Rattle.ini_edit.specs.SourceLines.{is_blank_or_line_end}
 use Rattle.ini_edit.specs.Sources.{joined}
 use Rattle.ini_edit.proofs.CommentLemmas.{begins_front, is_comment}
 use Rattle.ini_edit.proofs.InPlaceLemmas.{in_place-join, in_place-split}
-use Rattle.ini_edit.proofs.QuietLemmas.{IsComment, QuietFront, as_quiet, quiet_front}
-use Rattle.ini_edit.proofs.SourceSetLemmas.{line_end_no_mark}
+use Rattle.ini_edit.proofs.QuietLemmas.{IsComment, QuietFront, as_quiet, line_end_no_mark, quiet_front}
 use Rattle.ini_edit.proofs.SpanLemmas.{spans_elements}
 
--- comments stand in column one
-pub column_of : {b s r : Text} {gives : List Given} → IsComment b s r gives → is_column_one b ≡ true
-column_of (IsComment.whole s one mark all) = one
-column_of (IsComment.last one mark all) = one
+-- where a comment begins: in column one, or, with indented comments, behind a CR
+pub data CommentPlace (o : ParseOption) (b : Text) : Type 0 where
+  column : is_column_one b ≡ true → CommentPlace o b
+  after_cr : o.enabled_indented_comment ≡ true → starts_line b ≡ true → is_column_one b ≡ false
+      → CommentPlace o b
 
-pub pieces_column : {o : ParseOption} {c : ℕ} {r : Text} (ps : List Piece) → ArePieces o c ps r
-    → BeginsWith is_comment_mark (pieces_text ps) → is_column_one (c ∷ []) ≡ true
-pieces_column [] ArePieces.none m = absurd (false≢true (sym m))
-pieces_column {r = r} (p ∷ ps) (ArePieces.more e rest) m =
-    column_of (is_comment (subst (BeginsWith is_comment_mark) (append_assoc p.source (pieces_text ps) r)
+comment_place : {o : ParseOption} {b s r : Text} {gives : List Given} → IsComment o b s r gives
+    → CommentPlace o b
+comment_place (IsComment.whole s one mark all) = CommentPlace.column one
+comment_place (IsComment.last one mark all) = CommentPlace.column one
+comment_place (IsComment.after_cr on starts late remark) = CommentPlace.after_cr on starts late
+
+pub pieces_place : {o : ParseOption} {c : ℕ} {r : Text} (ps : List Piece) → ArePieces o c ps r
+    → BeginsWith is_comment_mark (pieces_text ps) → CommentPlace o (c ∷ [])
+pieces_place [] ArePieces.none m = absurd (false≢true (sym m))
+pieces_place {r = r} (p ∷ ps) (ArePieces.more e rest) m =
+    comment_place (is_comment (subst (BeginsWith is_comment_mark) (append_assoc p.source (pieces_text ps) r)
     (begins_front is_comment_mark (p.source ++ pieces_text ps) r m)) e)
 
 -- an element that gives nothing and begins with a line end is that character
@@ -48,10 +54,11 @@ no_blank_line : {X : Type 0} (w x : Text) → BeginsWith is_blank w → BeginsWi
 no_blank_line [] x h m = absurd (false≢true (sym h))
 no_blank_line (c ∷ w) x h m = absurd (both_ways (is_blank c) (line_end_no_blank c m) h)
 
-pub line_end_element : {b s r : Text} → QuietFront b s r → BeginsWith is_line_end s → length s ≡ 1
+pub line_end_element : {o : ParseOption} {b s r : Text} → QuietFront o b s r → BeginsWith is_line_end s
+    → length s ≡ 1
 line_end_element (QuietFront.blanks {w = w} t i) h = no_blank_line w t i.some h
 line_end_element (QuietFront.white q n) h = omega arith
-line_end_element (QuietFront.comment {m = m} one mark is) h =
+line_end_element (QuietFront.comment {m = m} starts mark is) h =
     absurd (both_ways (is_comment_mark m) (line_end_no_mark m h) mark)
 
 pub empty_front : (xs ys : List Given) → xs ++ ys ≡ [] → (xs ≡ []) × (ys ≡ [])
@@ -60,12 +67,12 @@ empty_front (x ∷ xs) ys h = absurd (let no : x ∷ (xs ++ ys) ≡ [] = h in cc
 
 module _ {o : ParseOption} where
   -- after another character
-  pub gap_like : {c d : ℕ} {s r : Text} → Agree (c ∷ []) (d ∷ []) s → IsGap o c s r → IsGap o d s r
+  pub gap_like : {c d : ℕ} {s r : Text} → Agree o (c ∷ []) (d ∷ []) s → IsGap o c s r → IsGap o d s r
   gap_like {c} {d} a h = record {
     pieces = h.pieces;
     whole = h.whole;
     nothing = h.nothing;
-    are = pieces_like (subst (Agree (c ∷ []) (d ∷ [])) h.whole a) h.are;
+    are = pieces_like (subst (Agree o (c ∷ []) (d ∷ [])) h.whole a) h.are;
   }
 
   pub gap_join : {c : ℕ} {a b r : Text} → IsGap o c a (b ++ r) → IsGap o (last_or c a) b r
@@ -136,27 +143,27 @@ module _ {o : ParseOption} where
           (IsSpan.is_gap (gap_join (subst (IsGap o d a) (append_assoc b following r) g) h))
           (subst (λ z. AreSpans o z zs r) (sym (last_or-append d a b)) rest))
 
-  pub spans_column : {c : ℕ} {r : Text} (xs : List Span) → AreSpans o c xs r
-      → BeginsWith is_comment_mark (joined span_source xs) → is_column_one (c ∷ []) ≡ true
-  spans_column xs h m =
+  pub spans_place : {c : ℕ} {r : Text} (xs : List Span) → AreSpans o c xs r
+      → BeginsWith is_comment_mark (joined span_source xs) → CommentPlace o (c ∷ [])
+  spans_place xs h m =
       let all = spans_elements h in
-      pieces_column all.pieces all.are (subst (BeginsWith is_comment_mark) all.text m)
+      pieces_place all.pieces all.are (subst (BeginsWith is_comment_mark) all.text m)
 
 -- the text ends, or a line does
 pub data EndsThere (r : Text) (last : ℕ) : Type 0 where
   text : r ≡ [] → EndsThere r last
   line : is_line_end last ≡ true → EndsThere r last
 
-ends_later : {r : Text} {c d : ℕ} → (is_line_end c ≡ true → is_line_end d ≡ true) → EndsThere r c
+pub ends_later : {r : Text} {c d : ℕ} → (is_line_end c ≡ true → is_line_end d ≡ true) → EndsThere r c
     → EndsThere r d
 ends_later next (EndsThere.text is) = EndsThere.text is
 ends_later next (EndsThere.line end) = EndsThere.line (next end)
 
-after_line : (e : ℕ) (t : Text) → is_line_end (last_or e t) ≡ true → is_line_end (last_or line_feed t) ≡ true
+pub after_line : (e : ℕ) (t : Text) → is_line_end (last_or e t) ≡ true → is_line_end (last_or line_feed t) ≡ true
 after_line e [] h = refl
 after_line e (x ∷ t) h = h
 
-after_blank : (e : ℕ) (t : Text) → is_line_end e ≡ false → is_line_end (last_or e t) ≡ true
+pub after_blank : (e : ℕ) (t : Text) → is_line_end e ≡ false → is_line_end (last_or e t) ≡ true
     → is_line_end (last_or space t) ≡ true
 after_blank e [] other h = absurd (both_ways (is_line_end e) other h)
 after_blank e (x ∷ t) other h = h
@@ -170,7 +177,7 @@ data Waits (c : ℕ) : Text → ℕ → Type 0 where
   start : Waits c [] line_feed
   blanks : {w : Text} → Indentation (c ∷ []) w → Waits c w space
 
-one_more : {c : ℕ} {w : Text} (d : ℕ) → Indentation (c ∷ []) w → is_blank d ≡ true
+pub one_more : {c : ℕ} {w : Text} (d : ℕ) → Indentation (c ∷ []) w → is_blank d ≡ true
     → Indentation (c ∷ []) (w ++ d ∷ [])
 one_more {w = w} d i blank = record {
   at_line_start = i.at_line_start;
@@ -183,7 +190,7 @@ module _ {o : ParseOption} where
   no_gap = record { pieces = []; whole = refl; nothing = refl; are = ArePieces.none }
 
   -- an element before a gap
-  gap_more : {c : ℕ} {s t r : Text} → Element o (c ∷ []) s (t ++ r) [] → IsGap o (last_or c s) t r
+  pub gap_more : {c : ℕ} {s t r : Text} → Element o (c ∷ []) s (t ++ r) [] → IsGap o (last_or c s) t r
       → IsGap o c (s ++ t) r
   gap_more {c} {s} {t} {r} e g = record {
     pieces = record { source = s; gives = [] } ∷ g.pieces;

@@ -20,7 +20,7 @@ use Rattle.ini_edit.specs.Inside.Spans.{IsGap}
 use Rattle.ini_edit.specs.SourceLines.{indentation_at_end}
 use Rattle.ini_edit.proofs.EndingLemmas.{no_feed_by}
 use Rattle.ini_edit.proofs.GapLemmas.{empty_front}
-use Rattle.ini_edit.proofs.QuietLemmas.{Free, Quiet, as_quiet, free}
+use Rattle.ini_edit.proofs.QuietLemmas.{Free, Quiet, as_quiet, free, note_ahead, note_line_within}
 
 -- of two ways to part a text one goes further
 pub data Halves (k m s t : Text) : Type 0 where
@@ -93,6 +93,9 @@ no_blank_end d end blank = absurd (both_ways (is_blank d) (line_end_no_blank d e
 abbrev is_other : ℕ → Bool
 is_other c = not (is_line_feed c)
 
+abbrev no_end : ℕ → Bool
+no_end c = not (is_line_end c)
+
 no_comment : (y : ℕ) (k : Text) (x : ℕ) (more : Text) (m : ℕ) (s : Text)
     → m ∷ (s ++ line_feed ∷ []) ≡ y ∷ (k ++ x ∷ more) → is_comment_mark m ≡ true
     → list_all is_other s ≡ true → LineStarts (last_or y k) (x ∷ more) → ⊥
@@ -121,6 +124,10 @@ module _ {o : ParseOption} {b : Text} (y : ℕ) (k : Text) (x : ℕ) (more : Tex
   no_element (Quiet.anywhere (Free.comment {m = m} s one mark all)) is some starts =
       no_comment y k x more m s is mark all starts
   no_element (Quiet.at_end tail) is some starts = some refl
+  no_element (Quiet.at_line_end {w = w} {s = s} on front remark) is some starts =
+      let all = subst (λ t. list_all no_end t ≡ true) is (note_line_within front remark) in
+      both_ways (is_line_end (last_or y k))
+      (not-true _ (all_last no_end y k (all_front no_end (y ∷ k) (x ∷ more) all))) (starts_end starts)
 
 -- both parts are elements that give nothing
 pub record Parts (o : ParseOption) (c : ℕ) (k m r : Text) : Type 0 where
@@ -193,15 +200,16 @@ indented_end b (c ∷ w) end blank =
 
 module _ {o : ParseOption} where
   -- an element before an item, whatever follows it, where no blanks indent that
-  quiet_any : {c : ℕ} {s y : Text} (x : Text) → Quiet o (c ∷ []) s y → y ≢ [] → indentation_at_end c s ≡ []
-      → Element o (c ∷ []) s x []
+  quiet_any : {c : ℕ} {s y : Text} (x : Text) → Quiet o (c ∷ []) s y → BeginsWith no_end y
+      → indentation_at_end c s ≡ [] → Element o (c ∷ []) s x []
   quiet_any x (Quiet.anywhere e) some bare = free x e
   quiet_any {c} x (Quiet.before_header {w = w} i) some bare =
       let empty : w ≡ [] = sym (indented_end c w i.at_line_start i.blank) ∙ bare in
       absurd (false≢true (sym (subst (BeginsWith is_blank) empty i.some)))
-  quiet_any x (Quiet.at_end tail) some bare = absurd (some refl)
+  quiet_any x (Quiet.at_end tail) some bare = absurd (false≢true (sym some))
+  quiet_any {y = y} x (Quiet.at_line_end on front remark) some bare = note_ahead y remark some
 
-  pieces_any : {c : ℕ} {y x : Text} (ps : List Piece) → pieces_items ps ≡ [] → y ≢ []
+  pieces_any : {c : ℕ} {y x : Text} (ps : List Piece) → pieces_items ps ≡ [] → BeginsWith no_end y
       → indentation_at_end c (pieces_text ps) ≡ [] → ArePieces o c ps y → ArePieces o c ps x
   pieces_any [] none some bare ArePieces.none = ArePieces.none
   pieces_any {c} {y} {x} (p ∷ ps) none some bare (ArePieces.more e rest) =
@@ -219,8 +227,8 @@ module _ {o : ParseOption} where
       at (d ∷ t) none bare e = Element-before BeginAlike.character e
 
   -- a gap that an item follows stands before any other text, where no blanks at its end indent that
-  pub gap_any : {c : ℕ} {k y : Text} (x : Text) → y ≢ [] → indentation_at_end c k ≡ [] → IsGap o c k y
-      → IsGap o c k x
+  pub gap_any : {c : ℕ} {k y : Text} (x : Text) → BeginsWith (λ c. not (is_line_end c)) y
+      → indentation_at_end c k ≡ [] → IsGap o c k y → IsGap o c k x
   gap_any {c} x some bare h = record {
     pieces = h.pieces;
     whole = h.whole;

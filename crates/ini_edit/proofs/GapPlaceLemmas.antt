@@ -160,13 +160,13 @@ module _ (gap dropped solid : Text) (within : IsRest gap dropped)
   kept_before = sym (front_is kept (solid ++ dropped) gap kept_parts)
 
 pub after_solid : (o : ParseOption) (has_pair : Bool) (before : ℕ) (gap dropped solid : Text)
-    → dropped ≡ dropped_key false before gap → is_empty dropped ≡ false → has_pair ≡ true
+    → dropped ≡ dropped_key o before gap → is_empty dropped ≡ false → has_pair ≡ true
     → o.enabled_indented_mutiline_value ≡ true
-    → from_last_solid false (front_of gap dropped) ≡ Some solid
+    → from_last_solid before (front_of gap dropped) ≡ Some solid
     → after_new_section o has_pair before gap ≡ Some (solid ++ dropped)
 after_solid o has_pair before gap dropped solid is some pair multiline found =
     subst (λ d. cond (is_empty d || not (has_pair && o.enabled_indented_mutiline_value)) (Some d)
-    (option_map (λ s. s ++ d) (from_last_solid false (front_of gap d))) ≡ Some (solid ++ dropped)) is
+    (option_map (λ s. s ++ d) (from_last_solid before (front_of gap d))) ≡ Some (solid ++ dropped)) is
     (cond-false (is_empty dropped || not (has_pair && o.enabled_indented_mutiline_value)) _ _
     (or_from _ _ some (not_from_true _ (and_from _ _ pair multiline)))
     ∙ ap (option_map (λ s. s ++ dropped)) found)

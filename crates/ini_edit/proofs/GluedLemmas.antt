@@ -1,36 +1,28 @@
--- Values with a line end put in after them: the text's end, or what followed them, is a line further down.
-use Rattle.std.proofs.Common.{◌≡◌, ◌≢◌, ℕ, Bool, true, false, ◌&&◌, eqb, cond, List, [], ◌∷◌, ◌++◌, length}
+-- Lines of a value with what closes them, before a line end or the text's end.
+use Rattle.std.proofs.Common.{◌≡◌, ℕ, Bool, true, false, ◌&&◌, eqb, cond, not, List, [], ◌∷◌, ◌++◌}
+use Rattle.std.proofs.Common.{length}
 use Rattle.std.proofs.Common.{refl, sym, ap, ◌∙◌, subst, append_assoc, append-nil, inl, inr}
 use Rattle.std.specs.Prelude.{◌⊎◌}
-use Rattle.std.proofs.lemmas.Bool.{cases_Bool, cond-true, cond-false, eqb-false, false≢true, both_ways}
+use Rattle.std.proofs.lemmas.Bool.{cases_Bool, cond-true, cond-false, eqb-false, both_ways}
 use Rattle.std.proofs.lemmas.Bool.{and_parts, and_from}
-use Rattle.std.specs.Char.{is_whitespace}
 use Rattle.std.specs.List.{list_all}
-use Rattle.std.specs.Str.{drop_trailing_whitespace}
 use Rattle.ini_text.specs.Options.Backslashes.{Backslash, is_special, reads_escapes}
 use Rattle.ini_text.specs.Options.ReadOptions.{backslash_of}
 use Rattle.ini_text.specs.declared.option.ParseOption.{ParseOption}
-use Rattle.ini_text.specs.declared.write.option.LineSeparator.{LineSeparator}
-use Rattle.ini_text.specs.declared.write.option.LineSeparator.TheVariants.{SystemDefault, CR, CRLF}
-use Rattle.ini_text.specs.Grammar.CharacterKinds.{backslash, letter_x, line_feed, space, is_blank}
-use Rattle.ini_text.specs.Grammar.CharacterKinds.{is_inline_white, is_line_feed, is_quote_mark, BeginsWith}
-use Rattle.ini_text.specs.Grammar.CharacterKinds.{BeginsWithNo}
-use Rattle.ini_text.specs.Grammar.WhiteSpace.{Lead, trimmed, end_trimmed, drop_line_feeds}
+use Rattle.ini_text.specs.Grammar.CharacterKinds.{backslash, letter_x, line_feed, space}
+use Rattle.ini_text.specs.Grammar.CharacterKinds.{is_inline_white, is_line_feed, is_quote_mark}
+use Rattle.ini_text.specs.Grammar.CharacterKinds.{is_comment_mark, is_line_end, BeginsWithNo}
+use Rattle.ini_text.specs.Grammar.WhiteSpace.{Lead, drop_line_feeds}
 use Rattle.ini_text.specs.Grammar.WhiteSpace.{without_outer_line_feeds}
 use Rattle.ini_text.specs.Grammar.EscapeSequences.{EscapeSequence}
 use Rattle.ini_text.specs.Grammar.Strings.{Closes, Ends, Row, Str, plain_ends}
 use Rattle.ini_text.specs.Grammar.Lines.{Line, plain_value}
-use Rattle.ini_text.specs.Grammar.Values.{LineEnd, MoreLines, Value}
-use Rattle.ini_text.specs.Options.WriteOptions.{line_end}
-use Rattle.ini_text.proofs.LawLemmas.OneAheadLemmas.{Alike, Lead-alike, Line-alike, Alike-after}
-use Rattle.ini_text.proofs.PlainLemmas.PlainPairLemmas.{line_end-is}
+use Rattle.ini_text.specs.Grammar.Values.{GoesOn, LineEnd, Value}
 use Rattle.ini_edit.specs.Endings.{Ending, Closing, ending_from}
-use Rattle.ini_edit.specs.Places.{Follows}
-use Rattle.ini_edit.proofs.EndingLemmas.{ending-lead, ending-line, ending-quoted, ending-row, ending-white}
-use Rattle.ini_edit.proofs.EndingLemmas.{off_reads, on_reads}
-use Rattle.ini_edit.proofs.EndedLemmas.{line_end-some-after}
-use Rattle.ini_edit.proofs.InsertedLemmas.{line_end-closes}
-use Rattle.ini_edit.proofs.PadLemmas.{end_trimmed-white}
+use Rattle.ini_edit.proofs.CommentedLineLemmas.{closes_no_comment}
+use Rattle.ini_edit.proofs.EndingLemmas.{ending-quoted, ending-row, ending-white}
+use Rattle.ini_edit.proofs.EndingLemmas.{ending_from-append, off_reads, on_reads}
+use Rattle.ini_edit.proofs.PadLemmas.{value_with_space}
 use Rattle.ini_edit.proofs.ValueLemmas.{closes_no_inline, closes_no_mark}
 
 pub row-append : {e : Backslash} {ends : Ends} {s v t w : List ℕ} → Row e ends s v → Row e ends t w
@@ -46,7 +38,7 @@ module _ {o : ParseOption} where
   pub closing_inside : {c : List ℕ} → Closing o Ending.inside c → c ≡ []
   closing_inside Closing.within = refl
 
-  closing_line : {c : List ℕ} → Closing o Ending.line c → c ≡ []
+  pub closing_line : {c : List ℕ} → Closing o Ending.line c → c ≡ []
   closing_line Closing.after_line = refl
 
   closing_escape : {c : List ℕ} → Closing o Ending.escape c
@@ -60,30 +52,42 @@ module _ {o : ParseOption} where
   closing_after [] k = subst (Closing o Ending.line) (sym (closing_inside k)) Closing.after_line
   closing_after (x ∷ t) k = k
 
--- a space after a backslash is taken off with the white space at a line's end
-end_with_space : (v : List ℕ)
-    → end_trimmed (v ++ backslash ∷ (space ∷ [])) ≡ end_trimmed (v ++ backslash ∷ [])
-end_with_space v =
-    ap end_trimmed (sym (append_assoc v (backslash ∷ []) (space ∷ [])))
-    ∙ end_trimmed-white (v ++ backslash ∷ []) (space ∷ []) refl
+  -- after a line end, however the line s before it ends
+  pub closing_end : {c e y : List ℕ} (s t : List ℕ) → LineEnd e y
+      → Closing o (ending_from o Ending.line (s ++ (e ++ t))) c
+      → Closing o (ending_from o Ending.inside (e ++ t)) c
+  closing_end {c} {e} s t end k =
+      at (ending_from o Ending.line s) end
+      (subst (λ z. Closing o z c) (ending_from-append o Ending.line s (e ++ t)) k)
+    where
+      at : {e y : List ℕ} (f : Ending) → LineEnd e y → Closing o (ending_from o f (e ++ t)) c
+          → Closing o (ending_from o Ending.inside (e ++ t)) c
+      at Ending.inside end k = k
+      at Ending.line LineEnd.lf k = k
+      at Ending.line LineEnd.cr_lf k = k
+      at Ending.line (LineEnd.cr n) k = k
+      at Ending.escape LineEnd.lf k = closing_after t k
+      at Ending.escape LineEnd.cr_lf k = k
+      at Ending.escape (LineEnd.cr n) k = k
 
-both_with_space : (v : List ℕ) → trimmed (v ++ backslash ∷ (space ∷ [])) ≡ trimmed (v ++ backslash ∷ [])
-both_with_space [] = refl
-both_with_space (c ∷ v) = elim (cases_Bool (is_whitespace c)) [
-  | inl white ↦
-      ap drop_trailing_whitespace (cond-true (is_whitespace c) _ _ white) ∙ both_with_space v
-      ∙ ap drop_trailing_whitespace (sym (cond-true (is_whitespace c) _ _ white))
-  | inr other ↦
-      ap drop_trailing_whitespace (cond-false (is_whitespace c) _ _ other) ∙ end_with_space (c ∷ v)
-      ∙ ap drop_trailing_whitespace (sym (cond-false (is_whitespace c) _ _ other))
-]
+  -- nothing goes before a line end after another one
+  pub closing_alone : {c e y : List ℕ} (t : List ℕ) → LineEnd e y
+      → Closing o (ending_from o Ending.inside (e ++ t)) c → t ≡ [] → c ≡ []
+  closing_alone {c} {e} t end k none =
+      at end (subst (λ t. Closing o (ending_from o Ending.inside (e ++ t)) c) none k)
+    where
+      at : {e y : List ℕ} → LineEnd e y → Closing o (ending_from o Ending.inside (e ++ [])) c → c ≡ []
+      at LineEnd.lf k = closing_line k
+      at LineEnd.cr_lf k = closing_line k
+      at (LineEnd.cr n) k = closing_inside k
 
-value_with_space : (first quoted : Bool) (v : List ℕ)
-    → plain_value first quoted (v ++ backslash ∷ (space ∷ [])) ≡ plain_value first quoted
-    (v ++ backslash ∷ [])
-value_with_space true true v = end_with_space v
-value_with_space true false v = both_with_space v
-value_with_space false quoted v = end_with_space v
+  -- what closes a text ends no line
+  pub closing_within : {e : Ending} {c : List ℕ} → Closing o e c
+      → list_all (λ c. not (is_line_end c)) c ≡ true
+  closing_within Closing.within = refl
+  closing_within Closing.after_line = refl
+  closing_within (Closing.by_backslash on) = refl
+  closing_within (Closing.by_space off) = refl
 
 -- line feeds after a value's lines go
 drop_feeds : (w : List ℕ) → list_all is_line_feed w ≡ true → drop_line_feeds w ≡ []
@@ -179,273 +183,16 @@ module _ {o : ParseOption} {c : List ℕ} (y : List ℕ) (closes : Closes plain_
   }
   lead_glued (x ∷ l) r lead k = record { white = lead.white; ends = lead.ends }
 
--- no lines have no value
-no_lines : {o : ParseOption} {t r v : List ℕ} → MoreLines o t r v → t ≡ [] → v ≡ []
-no_lines (MoreLines.done n m) h = refl
-no_lines (MoreLines.empty_lf m) h = cc
-no_lines (MoreLines.empty_cr_lf m) h = cc
-no_lines (MoreLines.continued {w} {l} {e} {t} b lead ln le m) h = absurd (some w _ b h)
-  where
-    some : (w z : List ℕ) → BeginsWith is_blank w → (w ++ z) ≢ []
-    some [] z b h = false≢true (sym b)
-    some (c ∷ w) z b h = cc
-no_lines (MoreLines.last {w} {l} b lead ln) h = absurd (some w _ b h)
-  where
-    some : (w z : List ℕ) → BeginsWith is_blank w → (w ++ z) ≢ []
-    some [] z b h = false≢true (sym b)
-    some (c ∷ w) z b h = cc
-
--- With g, a line end and what goes before it, after them, lines are read before x: their value has only
--- line feeds after it.
-pub record MoreGlued (o : ParseOption) (t g x v : List ℕ) : Type 0 where
-  pub value : List ℕ
-  pub feeds : List ℕ
-  pub more : MoreLines o (t ++ g) x value
-  pub is : value ≡ v ++ feeds
-  pub all : list_all is_line_feed feeds ≡ true
-
--- the same from a line end e on
-pub record EndedGlued (o : ParseOption) (e t r g x v : List ℕ) : Type 0 where
-  pub end : List ℕ
-  pub lines : List ℕ
-  pub value : List ℕ
-  pub feeds : List ℕ
-  pub whole : end ++ lines ≡ (e ++ t) ++ g
-  pub alike : Alike (e ++ (t ++ r)) (end ++ (lines ++ x))
-  pub is_end : LineEnd end (lines ++ x)
-  pub more : MoreLines o lines x value
-  pub is : value ≡ v ++ feeds
-  pub all : list_all is_line_feed feeds ≡ true
-
-module _ {o : ParseOption} (sep : LineSeparator) {x : List ℕ} (follows : Follows o x)
-    (on : o.enabled_indented_mutiline_value ≡ true) where
-  done : MoreLines o [] x []
-  done = MoreLines.done (follows.no_blank on) (follows.no_line_end on)
-
-  done_glued : MoreGlued o [] (line_end sep) x []
-  done_glued = at sep
+  pub goes_on_glued : {w : List ℕ} (l r : List ℕ) → GoesOn o w (l ++ r)
+      → Closing o (ending_from o Ending.inside l) c → GoesOn o w ((l ++ c) ++ y)
+  goes_on_glued l r goes k =
+      record { begins = goes.begins; lead = lead_glued l r goes.lead k; text = λ on. text l (goes.text on) k }
     where
-      at : (s : LineSeparator) → MoreGlued o [] (line_end s) x []
-      at SystemDefault = record {
-        value = line_feed ∷ [];
-        feeds = line_feed ∷ [];
-        more = MoreLines.empty_lf done;
-        is = refl;
-        all = refl;
-      }
-      at CR = record {
-        value = line_feed ∷ [];
-        feeds = line_feed ∷ [];
-        more = MoreLines.empty_lf done;
-        is = refl;
-        all = refl;
-      }
-      at CRLF = record {
-        value = line_feed ∷ [];
-        feeds = line_feed ∷ [];
-        more = MoreLines.empty_cr_lf done;
-        is = refl;
-        all = refl;
-      }
-
-  module _ (c : List ℕ) where
-    -- the glue
-    abbrev g : List ℕ
-    g = c ++ line_end sep
-
-    nothing_before : c ≡ [] → line_end sep ≡ g
-    nothing_before none = ap (λ z. z ++ line_end sep) (sym none)
-
-    past_cr : {v r : List ℕ} → c ≡ [] → v ≡ [] → EndedGlued o (0x0D ∷ []) [] r g x v
-    past_cr {v} {r} alone none =
-        subst (λ z. EndedGlued o (0x0D ∷ []) [] r z x v) (nothing_before alone)
-        (subst (EndedGlued o (0x0D ∷ []) [] r (line_end sep) x) (sym none) (at sep))
-      where
-        at : (s : LineSeparator) → EndedGlued o (0x0D ∷ []) [] r (line_end s) x []
-        at SystemDefault = record {
-          end = 0x0D ∷ (0x0A ∷ []);
-          lines = [];
-          value = [];
-          feeds = [];
-          whole = refl;
-          alike = Alike.same;
-          is_end = LineEnd.cr_lf;
-          more = done;
-          is = refl;
-          all = refl;
-        }
-        at CR = record {
-          end = 0x0D ∷ (0x0A ∷ []);
-          lines = [];
-          value = [];
-          feeds = [];
-          whole = refl;
-          alike = Alike.same;
-          is_end = LineEnd.cr_lf;
-          more = done;
-          is = refl;
-          all = refl;
-        }
-        at CRLF = record {
-          end = 0x0D ∷ [];
-          lines = 0x0D ∷ (0x0A ∷ []);
-          value = 0x0A ∷ [];
-          feeds = 0x0A ∷ [];
-          whole = refl;
-          alike = Alike.same;
-          is_end = LineEnd.cr refl;
-          more = MoreLines.empty_cr_lf done;
-          is = refl;
-          all = refl;
-        }
-
-    pub ended_glued : {e : List ℕ} (t r v : List ℕ) → LineEnd e (t ++ r) → MoreLines o t r v
-        → Closing o (ending_from o Ending.inside (e ++ t)) c → MoreGlued o t g x v → EndedGlued o e t r g x v
-    ended_glued t r v LineEnd.lf m k n = record {
-      end = line_feed ∷ [];
-      lines = t ++ g;
-      value = n.value;
-      feeds = n.feeds;
-      whole = refl;
-      alike = Alike.same;
-      is_end = LineEnd.lf;
-      more = n.more;
-      is = n.is;
-      all = n.all;
-    }
-    ended_glued t r v LineEnd.cr_lf m k n = record {
-      end = 0x0D ∷ (0x0A ∷ []);
-      lines = t ++ g;
-      value = n.value;
-      feeds = n.feeds;
-      whole = refl;
-      alike = Alike.same;
-      is_end = LineEnd.cr_lf;
-      more = n.more;
-      is = n.is;
-      all = n.all;
-    }
-    ended_glued [] r v (LineEnd.cr h) m k n = past_cr (closing_inside k) (no_lines m refl)
-    ended_glued (a ∷ t) r v (LineEnd.cr h) m k n = record {
-      end = 0x0D ∷ [];
-      lines = (a ∷ t) ++ g;
-      value = n.value;
-      feeds = n.feeds;
-      whole = refl;
-      alike = Alike.same;
-      is_end = LineEnd.cr h;
-      more = n.more;
-      is = n.is;
-      all = n.all;
-    }
-
-    -- how the lines after a line end end
-    pub closing_lines : {e : List ℕ} (t y : List ℕ) → LineEnd e y
-        → Closing o (ending_from o Ending.inside (e ++ t)) c
-        → Closing o (ending_from o Ending.line t) c
-    closing_lines t y LineEnd.lf k = k
-    closing_lines t y LineEnd.cr_lf k = k
-    closing_lines t y (LineEnd.cr n) k = closing_after t k
-
-    -- the glue closes a line
-    closes : Closes plain_ends (line_end sep ++ ([] ++ x))
-    closes = line_end-closes sep x
-
-    seam : (w l : List ℕ) → w ++ ((l ++ c) ++ (line_end sep ++ [])) ≡ (w ++ l) ++ g
-    seam w l =
-        ap (λ z. w ++ ((l ++ c) ++ z)) (append-nil (line_end sep))
-        ∙ ap (λ z. w ++ z) (append_assoc l c (line_end sep))
-        ∙ sym (append_assoc w l g)
-
-    seam_lines : (w l y z : List ℕ) → y ≡ z ++ g → w ++ (l ++ y) ≡ (w ++ (l ++ z)) ++ g
-    seam_lines w l y z h =
-        ap (λ y. w ++ (l ++ y)) h ∙ ap (λ y. w ++ y) (sym (append_assoc l z g))
-        ∙ sym (append_assoc w (l ++ z) g)
-
-    pub more_glued : {t r v : List ℕ} → MoreLines o t r v → Closing o (ending_from o Ending.line t) c
-        → MoreGlued o t g x v
-    more_glued (MoreLines.done n m) k =
-        subst (λ z. MoreGlued o [] z x []) (nothing_before (closing_line k)) done_glued
-    more_glued (MoreLines.empty_lf m) k =
-        let n = more_glued m k in
-        record {
-          value = line_feed ∷ n.value;
-          feeds = n.feeds;
-          more = MoreLines.empty_lf n.more;
-          is = ap (λ z. line_feed ∷ z) n.is;
-          all = n.all;
-        }
-    more_glued (MoreLines.empty_cr_lf m) k =
-        let n = more_glued m k in
-        record {
-          value = line_feed ∷ n.value;
-          feeds = n.feeds;
-          more = MoreLines.empty_cr_lf n.more;
-          is = ap (λ z. line_feed ∷ z) n.is;
-          all = n.all;
-        }
-    more_glued (MoreLines.continued {w} {l} {e} {t} {r} {u} {v} b lead ln le m) k =
-        let following : Closing o (ending_from o Ending.inside (e ++ t)) c =
-        subst (λ z. Closing o z c)
-        (ending-lead o Ending.line w (l ++ (e ++ t)) b lead.white
-        ∙ ending-line (e ++ t) (line_end-some-after (t ++ r) (t ++ r) le) ln) k in
-        let n = ended_glued t r v le m following (more_glued m (closing_lines t (t ++ r) le following)) in
-        record {
-          value = line_feed ∷ (u ++ n.value);
-          feeds = n.feeds;
-          more =
-              subst (λ z. MoreLines o z x (line_feed ∷ (u ++ n.value)))
-              (seam_lines w l (n.end ++ n.lines) (e ++ t) n.whole)
-              (MoreLines.continued b (Lead-alike (Alike-after l n.alike) lead)
-              (Line-alike n.alike ln) n.is_end n.more);
-          is =
-              ap (λ z. line_feed ∷ (u ++ z)) n.is ∙ ap (λ z. line_feed ∷ z) (sym (append_assoc u v n.feeds));
-          all = n.all;
-        }
-    more_glued (MoreLines.last {w} {l} {u} b lead ln) k =
-        let following : Closing o (ending_from o Ending.inside l) c =
-        subst (λ z. Closing o z c) (ending-lead o Ending.line w l b lead.white) k in
-        let new_lead = lead_glued (line_end sep ++ ([] ++ x)) closes l []
-        (subst (Lead w) (sym (append-nil l)) lead) following in
-        record {
-          value = line_feed ∷ (u ++ []);
-          feeds = [];
-          more =
-              subst (λ z. MoreLines o z x (line_feed ∷ (u ++ []))) (seam w l)
-              (MoreLines.continued b new_lead (line_glued (line_end sep ++ ([] ++ x)) closes ln following)
-              (line_end-is sep x) done);
-          is = refl;
-          all = refl;
-        }
-
-    -- a multiline value
-    pub lines_glued : {s r v : List ℕ} → Value o s r v → Closing o (ending_from o Ending.inside s) c
-        → Value o (s ++ g) x v
-    lines_glued (Value.one_line off lead ln) k = absurd (both_ways o.enabled_indented_mutiline_value off on)
-    lines_glued (Value.to_end {w} {l} {v} _ lead ln) k =
-        let following : Closing o (ending_from o Ending.inside l) c =
-        subst (λ z. Closing o z c) (ending-white o w l lead.white) k in
-        let new_lead = lead_glued (line_end sep ++ ([] ++ x)) closes l []
-        (subst (Lead w) (sym (append-nil l)) lead) following in
-        subst (λ z. Value o z x (without_outer_line_feeds v)) (seam w l)
-        (subst (λ z. Value o (w ++ ((l ++ c) ++ (line_end sep ++ []))) x (without_outer_line_feeds z))
-        (append-nil v)
-        (Value.lines on new_lead (line_glued (line_end sep ++ ([] ++ x)) closes ln following)
-        (line_end-is sep x) done))
-    lines_glued (Value.lines {w} {l} {e} {t} {r} {u} {v} _ lead ln le m) k =
-        let following : Closing o (ending_from o Ending.inside (e ++ t)) c =
-        subst (λ z. Closing o z c)
-        (ending-white o w (l ++ (e ++ t)) lead.white
-        ∙ ending-line (e ++ t) (line_end-some-after (t ++ r) (t ++ r) le) ln) k in
-        let n = ended_glued t r v le m following (more_glued m (closing_lines t (t ++ r) le following)) in
-        let same : without_outer_line_feeds (u ++ n.value) ≡ without_outer_line_feeds (u ++ v) =
-        ap (λ z. without_outer_line_feeds (u ++ z)) n.is
-        ∙ ap without_outer_line_feeds (sym (append_assoc u v n.feeds))
-        ∙ feeds_after (u ++ v) n.feeds n.all in
-        subst (λ z. Value o z x (without_outer_line_feeds (u ++ v)))
-        (seam_lines w l (n.end ++ n.lines) (e ++ t) n.whole)
-        (subst (Value o (w ++ (l ++ (n.end ++ n.lines))) x) same
-        (Value.lines on (Lead-alike (Alike-after l n.alike) lead) (Line-alike n.alike ln) n.is_end n.more))
+      text : (l : List ℕ) → BeginsWithNo is_comment_mark (l ++ r)
+          → Closing o (ending_from o Ending.inside l) c → BeginsWithNo is_comment_mark ((l ++ c) ++ y)
+      text [] n k = subst (λ z. BeginsWithNo is_comment_mark (z ++ y)) (sym (closing_inside k))
+          (closes_no_comment y closes)
+      text (x ∷ l) n k = n
 
 -- a value in one line
 pub line_value_glued : {o : ParseOption} {s r v c : List ℕ} (y : List ℕ) → Closes plain_ends y

@@ -4,6 +4,7 @@ use Rattle.std.proofs.Common.{append_assoc, append-nil, drop, get_or}
 use Rattle.std.proofs.lemmas.List.{drop_more, take_more}
 use Rattle.ini_text.specs.Grammar.Positions.{last_or}
 use Rattle.ini_text.specs.Laws.PieceLaws.{Agree, BeginAlike}
+use Rattle.ini_text.specs.declared.option.ParseOption.{ParseOption}
 use Rattle.ini_text.proofs.LawLemmas.LocalLemmas.{Agree-front, BeginAlike-after}
 use Rattle.ini_text.proofs.LawLemmas.PieceLemmas.{last_or-append}
 use Rattle.ini.specs.Texts.{Text}
@@ -11,10 +12,10 @@ use Rattle.ini_edit.specs.Inside.InPlace.{AreInPlace, IsLocal}
 use Rattle.ini_edit.specs.Sources.{joined}
 
 -- fronts that agree before a text and what follows it agree after the text
-pub Agree-after : {c d : ℕ} (s t : Text) → Agree (c ∷ []) (d ∷ []) (s ++ t)
-    → Agree (last_or c s ∷ []) (last_or d s ∷ []) t
+pub Agree-after : {o : ParseOption} {c d : ℕ} (s t : Text) → Agree o (c ∷ []) (d ∷ []) (s ++ t)
+    → Agree o (last_or c s ∷ []) (last_or d s ∷ []) t
 Agree-after [] t a = a
-Agree-after (e ∷ s) t a = record { line = λ _. refl; column = λ _. refl }
+Agree-after (e ∷ s) t a = record { line = λ _. refl; column = λ _. refl; comment = λ _ _. refl }
 
 module _ {A : Type 0} (source : A → Text) where
   pub joined-append : (xs ys : List A) → joined source (xs ++ ys) ≡ joined source xs ++ joined source ys
@@ -61,9 +62,9 @@ module _ {A : Type 0} (source : A → Text) where
         (in_place-join {c = last_or c (source x)} xs ys rest
         (subst (λ z. AreInPlace source stands z ys r) (last_or-append c (source x) (joined source xs)) g))
 
-    module _ (local : IsLocal source stands) where
+    module _ {o : ParseOption} (local : IsLocal source stands o) where
       -- after another character, and before another text
-      pub in_place-like : {c d : ℕ} {r : Text} {xs : List A} → Agree (c ∷ []) (d ∷ []) (joined source xs)
+      pub in_place-like : {c d : ℕ} {r : Text} {xs : List A} → Agree o (c ∷ []) (d ∷ []) (joined source xs)
           → AreInPlace source stands c xs r → AreInPlace source stands d xs r
       in_place-like a AreInPlace.none = AreInPlace.none
       in_place-like {c} {d} a (AreInPlace.more {x = x} {xs = xs} s rest) =
@@ -83,7 +84,7 @@ module _ {A : Type 0} (source : A → Text) where
           → AreInPlace source stands c (xs ++ (ys ++ zs)) r
           → AreInPlace source stands c xs (joined source new ++ (joined source zs ++ r))
           → AreInPlace source stands (last_or c (joined source xs)) new (joined source zs ++ r)
-          → Agree (last_or (last_or c (joined source xs)) (joined source ys) ∷ [])
+          → Agree o (last_or (last_or c (joined source xs)) (joined source ys) ∷ [])
           (last_or (last_or c (joined source xs)) (joined source new) ∷ []) (joined source zs)
           → AreInPlace source stands c (xs ++ (new ++ zs)) r
       in_place-put {c} {r} xs ys new zs h front made ends =
@@ -98,7 +99,7 @@ module _ {A : Type 0} (source : A → Text) where
           → AreInPlace source stands (last_or c (joined source xs)) new (joined source zs ++ r)
           → BeginAlike (joined source ys ++ (joined source zs ++ r)) (joined source new ++
           (joined source zs ++ r))
-          → Agree (last_or (last_or c (joined source xs)) (joined source ys) ∷ [])
+          → Agree o (last_or (last_or c (joined source xs)) (joined source ys) ∷ [])
           (last_or (last_or c (joined source xs)) (joined source new) ∷ []) (joined source zs)
           → AreInPlace source stands c (xs ++ (new ++ zs)) r
       in_place-exchanged {c} {r} xs ys new zs h made begins ends =

@@ -12,7 +12,7 @@ use Rattle.ini_text.specs.Inside.PlainTests.{begins}
 use Rattle.ini_text.specs.Parsing.Fronts.{IsRest, front_of}
 use Rattle.ini_edit.specs.Inside.SourceLayouts.{EndsInRest}
 use Rattle.ini_edit.specs.SourceLayout.{Rules, laid_gap, laid_pair, laid_pairs, laid_section, laid_sections}
-use Rattle.ini_edit.specs.SourceEditsSections.{section_rest}
+use Rattle.ini_edit.specs.SourceEditsSections.{rest_before_header}
 use Rattle.ini_edit.specs.SourceLayout.{above_next, column_after, column_at, first_lines, laid_lines}
 use Rattle.ini_edit.specs.SourceLayout.{line_ends, lines_of, one_more}
 use Rattle.ini_edit.specs.SourceLayout.{white_before}
@@ -231,8 +231,8 @@ bare_gap s h = by s.pairs h
     by (p ∷ ps) e = absurd (let no : false ≡ true = e in cc)
 
 -- what stays of a section's last gap is a rest of it
-pub section_rest-rest : (before : ℕ) (gap : Text) → IsRest gap (section_rest false before gap)
-section_rest-rest before gap =
+pub rest_before_header-rest : (before : ℕ) (gap : Text) → IsRest gap (rest_before_header before gap)
+rest_before_header-rest before gap =
     let indentation = indentation_at_end before gap in
     let front = front_of gap indentation in
     let comments = comments_at_end before front in

@@ -15,6 +15,7 @@ pub mod CommentPartLemmas
 pub mod CommentPutLemmas
 pub mod CommentRowLemmas
 pub mod CommentSectionLemmas
+pub mod CommentedLineLemmas
 pub mod DeletedLinesLemmas
 pub mod DeletedPairLemmas
 pub mod DeletedSourceLemmas
@@ -28,6 +29,7 @@ pub mod EndedGapLemmas
 pub mod EndedLemmas
 pub mod EndingLemmas
 pub mod ExchangeLemmas
+pub mod FeedLinesLemmas
 pub mod FindLemmas
 pub mod FirstFrontLemmas
 pub mod FirstLemmas
@@ -53,9 +55,11 @@ pub mod LayoutLemmas
 pub mod LineEndLemmas
 pub mod LineEndedLemmas
 pub mod LineFrontLemmas
+pub mod LinesGluedLemmas
 pub mod MadePairLemmas
 pub mod MakerLemmas
 pub mod MarkLemmas
+pub mod NewEndLemmas
 pub mod NewKeyLemmas
 pub mod NewPairLemmas
 pub mod NewSectionSpanLemmas
@@ -70,6 +74,7 @@ pub mod PairEndedLemmas
 pub mod PairMoreLemmas
 pub mod PairOutLemmas
 pub mod PairPutLemmas
+pub mod PairTailLemmas
 pub mod PlacedSpanLemmas
 pub mod PlainKeyLemmas
 pub mod PrevailingLemmas
@@ -79,7 +84,9 @@ pub mod PutBeforeLemmas
 pub mod PutBeforeSectionLemmas
 pub mod PutFirstLemmas
 pub mod PutFirstSectionLemmas
+pub mod QuietGapLemmas
 pub mod QuietLemmas
+pub mod QuietWalkLemmas
 pub mod QuoteLemmas
 pub mod ReadAsLemmas
 pub mod RestPutLemmas

@@ -6,6 +6,7 @@ use Rattle.std.specs.List.{list_all}
 use Rattle.ini_text.specs.Grammar.CharacterKinds.{is_line_end, is_line_feed}
 use Rattle.ini_text.specs.Grammar.Places.{TrailingLines, pair_source}
 use Rattle.ini_text.specs.Grammar.Positions.{last_or}
+use Rattle.ini_text.specs.Grammar.Values.{LineEnd}
 use Rattle.ini_text.specs.Laws.Plain.{IsPlainKey, IsReadBack}
 use Rattle.ini_text.specs.declared.option.ParseOption.{ParseOption}
 use Rattle.ini_text.specs.declared.write.policy.EscapePolicy.{EscapePolicy}
@@ -51,14 +52,13 @@ pub record AreAfter (o : ParseOption) (c : ℕ) (g r : Text) : Type 0 where
   pub is : IsGap o c g r
   pub column : is_line_feed (last_or c g) ≡ true
 
-module _ {o : ParseOption} {d : ℕ} {ds : Text} (end : IsNewEnd d ds) where
-  -- a new line's end, and the blank lines after it
-  pub trailing_made : {lines : Text} (gap r : Text) →
-      (o.enabled_indented_mutiline_value ≡ true → AreBlank o lines
-      (gap ++ r))
+module _ {o : ParseOption} {d : ℕ} {ds : Text} (all : list_all is_line_end (d ∷ ds) ≡ true) where
+  -- a line end, and the blank lines after it
+  trailing_put : {lines : Text} (gap r : Text) → LineEnd (d ∷ ds) (lines ++ (gap ++ r))
+      → (o.enabled_indented_mutiline_value ≡ true → AreBlank o lines (gap ++ r))
       → TrailingLines o (cond o.enabled_indented_mutiline_value ((d ∷ ds) ++ lines) [])
       (cond o.enabled_indented_mutiline_value gap (((d ∷ ds) ++ lines) ++ gap) ++ r)
-  trailing_made {lines} gap r blank =
+  trailing_put {lines} gap r end blank =
       let e = (d ∷ ds) ++ lines in
       elim (cases_Bool o.enabled_indented_mutiline_value) [
         | inl on ↦
@@ -67,33 +67,44 @@ module _ {o : ParseOption} {d : ℕ} {ds : Text} (end : IsNewEnd d ds) where
             (sym (cond-true o.enabled_indented_mutiline_value e [] on))
             (subst (λ g. TrailingLines o e (g ++ r))
             (sym (cond-true o.enabled_indented_mutiline_value gap (e ++ gap) on))
-            (TrailingLines.lines on (end.is_end (lines ++ (gap ++ r))) b.are b.all))
+            (TrailingLines.lines on end b.are b.all))
         | inr off ↦
             subst (λ t. TrailingLines o t (cond o.enabled_indented_mutiline_value gap (e ++ gap) ++ r))
             (sym (cond-false o.enabled_indented_mutiline_value e [] off))
             (subst (λ g. TrailingLines o [] (g ++ r))
             (sym (cond-false o.enabled_indented_mutiline_value gap (e ++ gap) off))
             (TrailingLines.line off
-            (line_end_closes d (and_parts (is_line_end d) (list_all is_line_end ds) end.all).0)))
+            (line_end_closes d (and_parts (is_line_end d) (list_all is_line_end ds) all).0)))
       ]
 
   module _ {make : Maker} (makes : MakesReadPairs o make) (indented : Bool) where
     -- a new pair before its lines and a gap
-    pub made_there : {c : ℕ} {e gap : Text} (r lines : Text) → e ≡ (d ∷ ds) ++ lines → is_line_end c ≡ true
+    pub made_put : {c : ℕ} {e gap : Text} (r lines : Text) → LineEnd (d ∷ ds) (lines ++ (gap ++ r))
+        → e ≡ (d ∷ ds) ++ lines → is_line_end c ≡ true
         → (o.enabled_indented_mutiline_value ≡ true → AreBlank o lines (gap ++ r))
         → IsPair o c (make indented e gap).stretches (make indented e gap).key (make indented e gap).value
         ((make indented e gap).after ++ r)
-    made_there {c} {e} {gap} r lines is start blank =
+    made_put {c} {e} {gap} r lines end is start blank =
         let all : (t : Text) → t ≡ (d ∷ ds) ++ lines
         → TrailingLines o (cond o.enabled_indented_mutiline_value t [])
         (cond o.enabled_indented_mutiline_value gap (t ++ gap) ++ r) =
         λ t is. subst (λ t. TrailingLines o (cond o.enabled_indented_mutiline_value t [])
-        (cond o.enabled_indented_mutiline_value gap (t ++ gap) ++ r)) (sym is) (trailing_made gap r blank) in
+        (cond o.enabled_indented_mutiline_value gap (t ++ gap) ++ r)) (sym is)
+        (trailing_put gap r end blank) in
         makes.makes.pair indented e gap start
         (subst (λ t. TrailingLines o t ((make indented e gap).after ++ r))
         (sym (makes.makes.trailing indented e gap))
         (subst (λ a. TrailingLines o (cond o.enabled_indented_mutiline_value e []) (a ++ r))
         (sym (makes.makes.after indented e gap)) (all e is)))
+
+module _ {o : ParseOption} {d : ℕ} {ds : Text} (end : IsNewEnd d ds) where
+  module _ {make : Maker} (makes : MakesReadPairs o make) (indented : Bool) where
+    -- the same of a new line's end
+    pub made_there : {c : ℕ} {e gap : Text} (r lines : Text) → e ≡ (d ∷ ds) ++ lines → is_line_end c ≡ true
+        → (o.enabled_indented_mutiline_value ≡ true → AreBlank o lines (gap ++ r))
+        → IsPair o c (make indented e gap).stretches (make indented e gap).key (make indented e gap).value
+        ((make indented e gap).after ++ r)
+    made_there r lines is start blank = made_put end.all makes indented r lines (end.is_end _) is start blank
 
     -- where values are multiline its lines end it
     pub made_last : (c : ℕ) (e gap : Text) → o.enabled_indented_mutiline_value ≡ true

@@ -184,7 +184,7 @@ module _ {o : ParseOption} {policy : EscapePolicy} {key : List ℕ} (plain : IsP
   pub indented : {b w : List ℕ} (s x : List ℕ) → Indentation b w
       → o.enabled_preserve_key_leading_whitespace ≡ false → list_all (is_key_white line) x ≡ true
       → (y : List ℕ)
-      → BeginsWith begins_indented_key ((x ++ y) ++ s)
+      → BeginsWith (begins_indented_key o) ((x ++ y) ++ s)
       → KeyFront o b (w ++ (x ++ source)) (m ∷ r) key
   indented {b} {w} s x i off white y was =
       let value : cond o.enabled_preserve_key_leading_whitespace (end_trimmed (w ++ (x ++ (key ++ pad))))
@@ -196,8 +196,8 @@ module _ {o : ParseOption} {policy : EscapePolicy} {key : List ℕ} (plain : IsP
       (KeyFront.indented i (begins x was)
       (Str.closed (white_row line x white key_row) (separator_closes line m sep)))
     where
-      begins : (x : List ℕ) → BeginsWith begins_indented_key ((x ++ y) ++ s)
-          → BeginsWith begins_indented_key ((x ++ source) ++ m ∷ r)
+      begins : (x : List ℕ) → BeginsWith (begins_indented_key o) ((x ++ y) ++ s)
+          → BeginsWith (begins_indented_key o) ((x ++ source) ++ m ∷ r)
       begins [] h =
           rw (append_assoc (escaped policy key) pad (m ∷ r)) (bare_indented policy (pad ++ m ∷ r) bare)
       begins (c ∷ x) h = h
@@ -243,7 +243,7 @@ module _ {o : ParseOption} {policy : EscapePolicy} {key : List ℕ} (plain : IsP
       (white_after w x (subst (λ z. list_all is_whitespace z ≡ true) parts.1 white)) in
       let front : KeyFront o b (w ++ (x ++ source)) (m ∷ r) key =
       indented k x ind off all (own ++ tail)
-      (subst (λ z. BeginsWith begins_indented_key (z ++ k)) parts.2 begins) in
+      (subst (λ z. BeginsWith (begins_indented_key o) (z ++ k)) parts.2 begins) in
       let same : w ++ (x ++ source) ≡ (c ∷ i) ++ source =
       sym (append_assoc w x source) ∙ ap (λ z. z ++ source) (sym parts.1) in
       record {

@@ -5,6 +5,7 @@ use Rattle.std.proofs.lemmas.Bool.{and_from, and_parts, both_ways, cases_Bool}
 use Rattle.std.specs.List.{list_all}
 use Rattle.ini_text.specs.Escaping.EscapedTexts.{escaped}
 use Rattle.ini_text.specs.Grammar.CharacterKinds.{is_blank, is_comment_mark, is_inline_white, is_separator}
+use Rattle.ini_text.specs.Grammar.CharacterKinds.{BeginsWithNo}
 use Rattle.ini_text.specs.Grammar.Keys.{KeyFront}
 use Rattle.ini_text.specs.Grammar.Places.{OwnLines, TrailingLines, pair_source, value_source}
 use Rattle.ini_text.specs.Grammar.Positions.{starts_line}
@@ -42,6 +43,7 @@ pub record IsSourceFor (o : ParseOption) (source value : Text) : Type 0 where
   pub gives : (w t r : Text) → list_all is_inline_white w ≡ true → TrailingLines o t r
       → Value o (w ++ (source ++ t)) r value
   pub own : (t r : Text) → TrailingLines o t r → OwnLines o (source ++ []) (t ++ r)
+  pub starts : BeginsWithNo is_inline_white source
 
 -- blanks may stand after a key
 blank_key_white : (line : LoneLine) (c : ℕ) → is_blank c ≡ true → is_key_white line c ≡ true
@@ -88,9 +90,11 @@ module _ {o : ParseOption} {policy : EscapePolicy} (pad : Text) (blank_pad : lis
       let plain = IsPlainKey.after_spaces spaces on off all bare in
       let front : KeyFront o [] (escaped policy (spaces ++ key) ++ pad) (m ∷ r) (spaces ++ key) =
       key_front pad r m refl plain (all_read {o = o} policy (spaces ++ key) read_back) blank_pad sep in
-      let agree : Agree [] b (escaped policy (spaces ++ key) ++ pad) = record {
+      let agree : Agree o [] b (escaped policy (spaces ++ key) ++ pad) = record {
         line = λ _. sym start;
         column = λ h. no_key front
+            (begins_front is_comment_mark (escaped policy (spaces ++ key) ++ pad) (m ∷ r) h);
+        comment = λ _ h. no_key front
             (begins_front is_comment_mark (escaped policy (spaces ++ key) ++ pad) (m ∷ r) h);
       } in
       subst (λ i. KeyFront o b (i ++ (escaped policy (spaces ++ key) ++ pad)) (m ∷ r) (spaces ++ key))
@@ -128,6 +132,7 @@ module _ {o : ParseOption} {policy : EscapePolicy} {key value source : Text} {st
     separates = is.separates;
     gives = given.gives style.space_before _ _ (inline_blanks style.space_before is.space_before) trailing;
     white_before = inline_blanks style.space_before is.space_before;
+    starts = given.starts;
     white_after = refl;
     are_trailing = trailing;
     own_lines = given.own _ _ trailing;

@@ -1,12 +1,12 @@
 -- The spans of a new section: its header, its pair where it has one, and the gap that follows.
 use Rattle.std.proofs.Common.{◌≡◌, ◌∙◌, ℕ, Bool, true, [], ◌∷◌, ◌++◌, Some, ap, append_assoc}
 use Rattle.std.proofs.Common.{append-nil, inl, inr, refl, subst, sym}
-use Rattle.std.proofs.lemmas.Bool.{cases_Bool, cond-false, cond-true}
+use Rattle.std.proofs.lemmas.Bool.{cases_Bool, cond-false, cond-true, or_left}
 use Rattle.ini_text.specs.Grammar.CharacterKinds.{BeginsWithNo, is_blank, is_line_end}
 use Rattle.ini_text.specs.Grammar.CharacterKinds.{line_feed}
 use Rattle.ini_text.specs.Grammar.Places.{Stretches, TrailingLines, pair_source, value_source}
 use Rattle.ini_text.specs.Grammar.Positions.{last_or}
-use Rattle.ini_text.specs.Grammar.Strings.{Closes, bracketed_name_ends, plain_ends}
+use Rattle.ini_text.specs.Grammar.Strings.{Closes, bracketed_name_ends}
 use Rattle.ini_text.specs.Grammar.Values.{LineEnd, MoreLines}
 use Rattle.ini_text.specs.Laws.Plain.{IsPlainName}
 use Rattle.ini_text.specs.declared.option.ParseOption.{ParseOption}
@@ -20,7 +20,7 @@ use Rattle.ini_edit.specs.Inside.Spans.{AreSpans, IsGap, IsPair, IsSpan, Span, g
 use Rattle.ini_edit.specs.Sections.{header_of}
 use Rattle.ini_edit.specs.SourceEditsAdd.{Maker}
 use Rattle.ini_edit.specs.Sources.{PairPiece}
-use Rattle.ini_edit.proofs.EndedGapLemmas.{feed_gap}
+use Rattle.ini_edit.proofs.EndedGapLemmas.{feed_closes_plain, feed_gap}
 use Rattle.ini_edit.proofs.GapLemmas.{gap_join, gap_like}
 use Rattle.ini_edit.proofs.SectionPlaceLemmas.{IsCutFor}
 use Rattle.ini_edit.proofs.HeaderLemmas.{bracketed}
@@ -32,15 +32,12 @@ pub rest_after_feed : {o : ParseOption} {has : Bool} {b : ℕ} {a g : Text} → 
 rest_after_feed cut = gap_like (record {
   line = λ h. cut.line h;
   column = λ h. cut.column h;
+  comment = λ on h. or_left _ _ (cut.column h);
 }) cut.rest
 
 feed_closes : {l : Text} (y : Text) → IsFeed l → Closes bracketed_name_ends (l ++ y)
 feed_closes y IsFeed.lf = refl
 feed_closes y IsFeed.cr_lf = refl
-
-feed_closes_plain : {l : Text} (y : Text) → IsFeed l → Closes plain_ends (l ++ y)
-feed_closes_plain y IsFeed.lf = refl
-feed_closes_plain y IsFeed.cr_lf = refl
 
 -- trailing lines of a new pair
 feed_trailing : {o : ParseOption} {l : Text} (g : Text) → o.enabled_indented_mutiline_value ≡ true → IsFeed l

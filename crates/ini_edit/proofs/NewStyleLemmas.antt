@@ -35,7 +35,7 @@ use Rattle.ini_edit.proofs.FirstLemmas.{rest_here}
 use Rattle.ini_edit.proofs.InPlaceLemmas.{in_place-split}
 use Rattle.ini_edit.proofs.NewPairLemmas.{IsPlainStyle, IsSourceFor}
 use Rattle.ini_edit.proofs.OwnBeforeLemmas.{own_padded}
-use Rattle.ini_edit.proofs.ReadAsLemmas.{read_source, value_read}
+use Rattle.ini_edit.proofs.ReadAsLemmas.{read_source, source_starts, value_read}
 use Rattle.ini_edit.proofs.SourcePartLemmas.{before_index}
 use Rattle.ini_edit.proofs.SourcePlaceLemmas.{index_place, place_drop, place_take}
 use Rattle.ini_edit.proofs.StyleLemmas.{separator_no_blank}
@@ -55,6 +55,7 @@ source_for first =
     record {
       gives = λ w t r white tail. value_read h w t r [] white refl tail;
       own = λ t r tail. own_padded [] (t ++ r) refl (tail_closes tail) (read_source h);
+      starts = source_starts h;
     }
 
 -- blanks

@@ -3,20 +3,22 @@ use Rattle.std.proofs.Common.{◌≡◌, ◌∙◌, ◌≤◌, ℕ, true, false,
 use Rattle.std.proofs.Common.{arith, length, length-append, refl, subst, subst₂, sym}
 use Rattle.std.proofs.lemmas.Bool.{and_parts, false≢true}
 use Rattle.std.specs.List.{list_all}
-use Rattle.ini_text.specs.Grammar.CharacterKinds.{BeginsWith, BeginsWithNo, is_blank, is_inline_white}
+use Rattle.ini_text.specs.Grammar.CharacterKinds.{BeginsWithNo, is_blank, is_inline_white}
 use Rattle.ini_text.specs.Grammar.CharacterKinds.{is_line_feed, is_quote_mark}
 use Rattle.ini_text.specs.Grammar.Lines.{Line}
 use Rattle.ini_text.specs.Grammar.Places.{LastLine, OwnLines, TrailingLines}
 use Rattle.ini_text.specs.Grammar.Strings.{Closes, Str, plain_ends}
-use Rattle.ini_text.specs.Grammar.WhiteSpace.{Lead}
+use Rattle.ini_text.specs.Grammar.Values.{GoesOn}
 use Rattle.ini_text.specs.Laws.PieceLaws.{BeginAlike}
 use Rattle.ini_text.specs.declared.option.ParseOption.{ParseOption}
-use Rattle.ini_text.proofs.LawLemmas.OneAheadLemmas.{Alike, Alike-after, Alike-some, EndedLine-before}
-use Rattle.ini_text.proofs.LawLemmas.OneAheadLemmas.{Lead-alike, Line-alike, LineEnd-alike}
+use Rattle.ini_text.proofs.LawLemmas.OneAheadLemmas.{Alike, Alike-after, Alike-some, CommentLine-before}
+use Rattle.ini_text.proofs.LawLemmas.OneAheadLemmas.{EndedLine-before, GoesOn-alike, GoesOn-before}
+use Rattle.ini_text.proofs.LawLemmas.OneAheadLemmas.{Line-alike, LineEnd-alike}
 use Rattle.ini_text.proofs.ReaderLemmas.RunReaderLemmas.{BeginsWith-some}
 use Rattle.ini_text.proofs.ReaderLemmas.ValueReaderLemmas.{line_end-some}
 use Rattle.ini.specs.Texts.{Text}
 use Rattle.ini_edit.proofs.AheadLemmas.{FollowsFront, closes_no_line}
+use Rattle.ini_edit.proofs.CommentedLineLemmas.{blanks_more, closes_no_comment, comment_some}
 use Rattle.ini_edit.proofs.GluedLemmas.{row-append}
 use Rattle.ini_edit.proofs.PadLemmas.{end_trimmed-white, white_both, white_row}
 use Rattle.ini_edit.proofs.QuoteLemmas.{white_no_mark}
@@ -24,14 +26,17 @@ use Rattle.ini_edit.proofs.ValueLemmas.{closes_no_inline, closes_no_mark}
 
 module _ {o : ParseOption} where
   last_alike : {t r x : Text} → Alike r x → LastLine o t r → LastLine o t x
-  last_alike a (LastLine.last {l = l} b lead ln some) =
-      LastLine.last b (Lead-alike (Alike-after l a) lead) (Line-alike a ln) some
+  last_alike a (LastLine.last {l = l} goes ln some) =
+      LastLine.last (GoesOn-alike (Alike-after l a) goes) (Line-alike a ln) some
   last_alike a (LastLine.empty_lf m) = LastLine.empty_lf (last_alike a m)
   last_alike a (LastLine.empty_cr_lf m) = LastLine.empty_cr_lf (last_alike a m)
-  last_alike a (LastLine.continued {t = t} b lead ln end m) =
+  last_alike {x = x} a (LastLine.continued {l = l} {t = t} goes ln end m) =
       let n = EndedLine-before (LineEnd-alike (Alike-after t a) end)
-      (record { lead = lead; line = ln; end = end }) in
-      LastLine.continued b n.lead n.line n.end (last_alike a m)
+      (record { lead = goes.lead; line = ln; end = end }) in
+      LastLine.continued (GoesOn-before l (t ++ x) end goes) n.line n.end (last_alike a m)
+  last_alike {x = x} a (LastLine.comment {t = t} line end m) =
+      LastLine.comment (CommentLine-before (t ++ x) end line) (LineEnd-alike (Alike-after t a) end)
+      (last_alike a m)
 
   -- before a text that begins alike
   pub own_alike : {l r x : Text} → Alike r x → OwnLines o l r → OwnLines o l x
@@ -68,16 +73,13 @@ module _ {o : ParseOption} (pad y : Text) (white : list_all is_inline_white pad 
       (Str.closed (row-append row (white_row pad white)) closes)))
 
 pub last_length : {o : ParseOption} {t r : Text} → LastLine o t r → 1 ≤ length t
-last_length (LastLine.last {w} {l} b lead ln some) =
-    let n = BeginsWith-some is_blank w b in omega (arith, length-append w l)
+last_length (LastLine.last {w} {l} goes ln some) =
+    let n = BeginsWith-some is_blank w goes.begins in omega (arith, length-append w l)
 last_length (LastLine.empty_lf m) = omega arith
 last_length (LastLine.empty_cr_lf m) = omega arith
-last_length (LastLine.continued {w} {l} {e} {t} b lead ln end m) =
-    let n = BeginsWith-some is_blank w b in omega (arith, length-append w (l ++ (e ++ t)))
-
-pub blanks_more : (w x : Text) → BeginsWith is_blank w → BeginsWith is_blank (w ++ x)
-blanks_more [] x h = absurd (let no : true ≡ false = h in cc)
-blanks_more (c ∷ w) x h = h
+last_length (LastLine.continued {w} {l} {e} {t} goes ln end m) =
+    let n = BeginsWith-some is_blank w goes.begins in omega (arith, length-append w (l ++ (e ++ t)))
+last_length (LastLine.comment {s} {e} {t} line end m) = comment_some (e ++ t) line
 
 pub alike_padded : (pad y t z : Text) → 1 ≤ length t → Alike (t ++ z) ((t ++ pad) ++ y)
 alike_padded pad y t z some =
@@ -85,27 +87,38 @@ alike_padded pad y t z some =
 
 module _ {o : ParseOption} (pad y : Text) (white : list_all is_inline_white pad ≡ true)
     (closes : Closes plain_ends y) where
-  only_padded : {w x u : Text} {c : ℕ} (l : Text) → BeginsWith is_blank w → Lead w (l ++ c ∷ x)
+  only_padded : {w x u : Text} {c : ℕ} (l : Text) → GoesOn o w (l ++ c ∷ x)
       → Line o false l (c ∷ x) u → list_all is_line_feed u ≡ false → LastLine o ((w ++ l) ++ pad) y
-  only_padded {w} [] b lead ln some =
+  only_padded {w} [] goes ln some =
       subst (λ s. LastLine o s y) (append-nil (w ++ pad) ∙ ap (λ z. z ++ pad) (sym (append-nil w)))
-      (LastLine.last (blanks_more w pad b)
-      (record { white = white_both w pad lead.white white; ends = closes_no_inline y closes })
-      (later_padded [] y refl closes ln) some)
-  only_padded {w} (d ∷ l) b lead ln some =
+      (LastLine.last (record {
+        begins = blanks_more w pad goes.begins;
+        lead = record { white = white_both w pad goes.lead.white white; ends = closes_no_inline y closes };
+        text = λ on. closes_no_comment y closes;
+      }) (later_padded [] y refl closes ln) some)
+  only_padded {w} (d ∷ l) goes ln some =
       subst (λ s. LastLine o s y) (sym (append_assoc w (d ∷ l) pad))
-      (LastLine.last b (record { white = lead.white; ends = lead.ends })
-      (later_padded pad y white closes ln) some)
+      (LastLine.last (record {
+        begins = goes.begins;
+        lead = record { white = goes.lead.white; ends = goes.lead.ends };
+        text = goes.text;
+      }) (later_padded pad y white closes ln) some)
 
   last_padded : {c : ℕ} {t x : Text} → LastLine o t (c ∷ x) → LastLine o (t ++ pad) y
-  last_padded (LastLine.last {l = l} b lead ln some) = only_padded l b lead ln some
+  last_padded (LastLine.last {l = l} goes ln some) = only_padded l goes ln some
   last_padded (LastLine.empty_lf m) = LastLine.empty_lf (last_padded m)
   last_padded (LastLine.empty_cr_lf m) = LastLine.empty_cr_lf (last_padded m)
-  last_padded {c} {x = x} (LastLine.continued {w} {l} {e} {t} b lead ln end m) =
+  last_padded {c} {x = x} (LastLine.continued {w} {l} {e} {t} goes ln end m) =
       let n = EndedLine-before (LineEnd-alike (alike_padded pad y t (c ∷ x) (last_length m)) end)
-      (record { lead = lead; line = ln; end = end }) in
+      (record { lead = goes.lead; line = ln; end = end }) in
       let seam : w ++ (l ++ (e ++ (t ++ pad))) ≡ (w ++ (l ++ (e ++ t))) ++ pad = simp append_assoc in
-      subst (λ s. LastLine o s y) seam (LastLine.continued b n.lead n.line n.end (last_padded m))
+      subst (λ s. LastLine o s y) seam
+      (LastLine.continued (GoesOn-before l ((t ++ pad) ++ y) end goes) n.line n.end (last_padded m))
+  last_padded {c} {x = x} (LastLine.comment {s} {e} {t} line end m) =
+      let seam : s ++ (e ++ (t ++ pad)) ≡ (s ++ (e ++ t)) ++ pad = simp append_assoc in
+      subst (λ s. LastLine o s y) seam
+      (LastLine.comment (CommentLine-before ((t ++ pad) ++ y) end line)
+      (LineEnd-alike (alike_padded pad y t (c ∷ x) (last_length m)) end) (last_padded m))
 
   pub own_padded : {c : ℕ} {s x : Text} → OwnLines o s (c ∷ x) → OwnLines o (s ++ pad) y
   own_padded (OwnLines.first ln) = first_padded pad y white closes ln

@@ -1,5 +1,5 @@
 -- A value's own lines end at one place: before the line end after which only lines stand that add nothing.
-use Rattle.std.proofs.Common.{◌≡◌, ◌∙◌, ℕ, Bool, true, false, [], ◌∷◌, ◌++◌, append_assoc, append-nil}
+use Rattle.std.proofs.Common.{◌≡◌, ◌∙◌, ℕ, Bool, true, false, not, [], ◌∷◌, ◌++◌, append_assoc, append-nil}
 use Rattle.std.proofs.Common.{Some, inl, inr, ap, refl, subst, sym}
 use Rattle.std.proofs.lemmas.Bool.{and_parts, both_ways, cases_Bool, false_from_ne_true, false≢true}
 use Rattle.std.proofs.lemmas.List.{append_cancel_right}
@@ -7,11 +7,11 @@ use Rattle.std.proofs.lemmas.List.Folds.{list_all-append}
 use Rattle.std.specs.List.{list_all}
 use Rattle.ini_text.specs.declared.option.ParseOption.{ParseOption}
 use Rattle.ini_text.specs.Grammar.CharacterKinds.{BeginsWith, BeginsWithNo, is_blank, is_inline_white}
-use Rattle.ini_text.specs.Grammar.CharacterKinds.{carriage_return, is_line_end, is_line_feed, line_feed}
-use Rattle.ini_text.specs.Grammar.Lines.{Line}
+use Rattle.ini_text.specs.Grammar.CharacterKinds.{carriage_return, is_comment_mark, is_line_end}
+use Rattle.ini_text.specs.Grammar.CharacterKinds.{is_line_feed, line_feed}
+use Rattle.ini_text.specs.Grammar.Lines.{Line, Note}
 use Rattle.ini_text.specs.Grammar.Places.{LastLine, OwnLines, TrailingLines}
-use Rattle.ini_text.specs.Grammar.Values.{LineEnd, MoreLines}
-use Rattle.ini_text.specs.Grammar.WhiteSpace.{Lead}
+use Rattle.ini_text.specs.Grammar.Values.{CommentLine, GoesOn, LineEnd, MoreLines}
 use Rattle.ini_text.specs.Inside.LineReader.{line}
 use Rattle.ini_text.specs.Inside.Reading.{found}
 use Rattle.ini_text.specs.Inside.Scans.{skipped}
@@ -20,6 +20,8 @@ use Rattle.ini_text.proofs.GrammarLemmas.KindLemmas.{line_end_no_blank}
 use Rattle.ini_text.proofs.ReaderLemmas.LineReaderLemmas.{line-reads}
 use Rattle.ini_text.proofs.ReaderLemmas.RunReaderLemmas.{run-finds}
 use Rattle.ini.specs.Texts.{Text}
+use Rattle.ini_edit.proofs.CommentedLineLemmas.{closes_end, comment_begins, comment_closes}
+use Rattle.ini_edit.proofs.CommentedLineLemmas.{comment_within}
 use Rattle.ini_edit.proofs.ReadAsLemmas.{no_tail}
 
 -- a line end is one
@@ -70,8 +72,8 @@ module _ (o : ParseOption) where
   -- a value goes on with a line at the front of a text, up to x, which adds u
   data NextLine (t x u : Text) : Type 0 where
     empty : t ≡ x → u ≡ [] → BeginsWith is_line_end t → NextLine t x u
-    blank : {w l : Text} → t ≡ w ++ (l ++ x) → BeginsWith is_blank w → Lead w (l ++ x) → Line o false l x u
-        → NextLine t x u
+    blank : {w l : Text} → t ≡ w ++ (l ++ x) → GoesOn o w (l ++ x) → Line o false l x u → NextLine t x u
+    comment : {s : Text} → t ≡ s ++ x → u ≡ [] → CommentLine o s x → NextLine t x u
 
   -- lines up to x, of which the last adds more than line feeds
   data OwnRest (x : Text) : Text → Type 0 where
@@ -100,32 +102,67 @@ module _ {o : ParseOption} where
   next_none : {X : Type 0} {t x u : Text} → NextLine o t x u → BeginsWithNo is_blank t
       → BeginsWithNo is_line_end t → X
   next_none {t = t} (NextLine.empty is none e) n m = ends_none t e m
-  next_none {x = x} (NextLine.blank {w} {l} is b lead ln) n m =
-      begins_none w (l ++ x) b (subst (BeginsWithNo is_blank) is n)
+  next_none {x = x} (NextLine.blank {w} {l} is goes ln) n m =
+      begins_none w (l ++ x) goes.begins (subst (BeginsWithNo is_blank) is n)
+  next_none {x = x} (NextLine.comment {s} is none noted) n m =
+      begins_none s x (comment_begins noted) (subst (BeginsWithNo is_blank) is n)
+
+  -- a comment goes up to its line's end, and no line with which a value goes on is one
+  comment_one : {s r k z : Text} → CommentLine o s r → CommentLine o k z → s ++ r ≡ k ++ z → r ≡ z
+  comment_one {s} {r} {k} {z} one other same =
+      sym (run-finds (λ c. not (is_line_end c)) s r (comment_within one)
+      (closes_end r (comment_closes one))).1
+      ∙ ap (skipped (λ c. not (is_line_end c))) same
+      ∙ (run-finds (λ c. not (is_line_end c)) k z (comment_within other)
+      (closes_end z (comment_closes other))).1
+
+  comment_apart : {X : Type 0} {s r w x : Text} → CommentLine o s r → GoesOn o w x → s ++ r ≡ w ++ x → X
+  comment_apart {r = r} {w} {x} (CommentLine.comment {w = v} {n} may begins lead noted) goes same =
+      let text : n ++ r ≡ x =
+      sym (run-finds is_inline_white v (n ++ r) lead.white lead.ends).1
+      ∙ ap (skipped is_inline_white) (sym (append_assoc v n r) ∙ same)
+      ∙ (run-finds is_inline_white w x goes.lead.white goes.lead.ends).1 in
+      at noted (subst (BeginsWithNo is_comment_mark) (sym text) (goes.text may))
+    where
+      at : {X : Type 0} {n r : Text} → Note n r → BeginsWithNo is_comment_mark (n ++ r) → X
+      at (Note.note {m} mark within closes) none = absurd (both_ways (is_comment_mark m) none mark)
 
   next_one : {t x u y v : Text} → NextLine o t x u → NextLine o t y v → (x ≡ y) × (u ≡ v)
   next_one (NextLine.empty is none e) (NextLine.empty at nothing d) = (sym is ∙ at, none ∙ sym nothing)
-  next_one {y = y} (NextLine.empty is none e) (NextLine.blank {w} {l} at b lead ln) =
-      begins_both w (l ++ y) b (subst (BeginsWith is_line_end) at e)
-  next_one {x = x} (NextLine.blank {w} {l} at b lead ln) (NextLine.empty is none e) =
-      begins_both w (l ++ x) b (subst (BeginsWith is_line_end) at e)
-  next_one {x = x} {y = y} (NextLine.blank {w} {l} is b lead ln)
-      (NextLine.blank {w = z} {l = m} at c other mn) =
-      line_one ln mn (sym (run-finds is_inline_white w (l ++ x) lead.white lead.ends).1
+  next_one {y = y} (NextLine.empty is none e) (NextLine.blank {w} {l} at goes ln) =
+      begins_both w (l ++ y) goes.begins (subst (BeginsWith is_line_end) at e)
+  next_one {y = y} (NextLine.empty is none e) (NextLine.comment {s} at nothing noted) =
+      begins_both s y (comment_begins noted) (subst (BeginsWith is_line_end) at e)
+  next_one {x = x} (NextLine.blank {w} {l} at goes ln) (NextLine.empty is none e) =
+      begins_both w (l ++ x) goes.begins (subst (BeginsWith is_line_end) at e)
+  next_one {x = x} (NextLine.comment {s} at nothing noted) (NextLine.empty is none e) =
+      begins_both s x (comment_begins noted) (subst (BeginsWith is_line_end) at e)
+  next_one {x = x} {y = y} (NextLine.blank {w} {l} is goes ln)
+      (NextLine.blank {w = z} {l = m} at other mn) =
+      line_one ln mn (sym (run-finds is_inline_white w (l ++ x) goes.lead.white goes.lead.ends).1
       ∙ ap (skipped is_inline_white) (sym is ∙ at)
-      ∙ (run-finds is_inline_white z (m ++ y) other.white other.ends).1)
+      ∙ (run-finds is_inline_white z (m ++ y) other.lead.white other.lead.ends).1)
+  next_one (NextLine.comment is none noted) (NextLine.comment at nothing other) =
+      (comment_one noted other (sym is ∙ at), none ∙ sym nothing)
+  next_one (NextLine.comment is none noted) (NextLine.blank at goes ln) =
+      comment_apart noted goes (sym is ∙ at)
+  next_one (NextLine.blank at goes ln) (NextLine.comment is none noted) =
+      comment_apart noted goes (sym is ∙ at)
 
   own_rest : {t r : Text} → LastLine o t r → OwnRest o r (t ++ r)
-  own_rest {r = r} (LastLine.last {w} {l} b lead ln some) =
-      OwnRest.stop (NextLine.blank (append_assoc w l r) b lead ln) some
+  own_rest {r = r} (LastLine.last {w} {l} goes ln some) =
+      OwnRest.stop (NextLine.blank (append_assoc w l r) goes ln) some
   own_rest (LastLine.empty_lf m) =
       OwnRest.on {e = line_feed ∷ []} (NextLine.empty refl refl refl) LineEnd.lf (own_rest m)
   own_rest (LastLine.empty_cr_lf m) =
       OwnRest.on {e = carriage_return ∷ line_feed ∷ []} (NextLine.empty refl refl refl) LineEnd.cr_lf
       (own_rest m)
-  own_rest {r = r} (LastLine.continued {w} {l} {e} {t} b lead ln end m) =
+  own_rest {r = r} (LastLine.continued {w} {l} {e} {t} goes ln end m) =
       let whole : (w ++ (l ++ (e ++ t))) ++ r ≡ w ++ (l ++ (e ++ (t ++ r))) = simp append_assoc in
-      OwnRest.on (NextLine.blank whole b lead ln) end (own_rest m)
+      OwnRest.on (NextLine.blank whole goes ln) end (own_rest m)
+  own_rest {r = r} (LastLine.comment {s} {e} {t} noted end m) =
+      let whole : (s ++ (e ++ t)) ++ r ≡ s ++ (e ++ (t ++ r)) = simp append_assoc in
+      OwnRest.on (NextLine.comment whole refl noted) end (own_rest m)
 
   adds_none : {t r u : Text} → MoreLines o t r u → list_all is_line_feed u ≡ true → AddsNone o (t ++ r)
   adds_none (MoreLines.done n m) all = AddsNone.done n m
@@ -134,12 +171,17 @@ module _ {o : ParseOption} where
   adds_none (MoreLines.empty_cr_lf m) all =
       AddsNone.on {e = carriage_return ∷ line_feed ∷ []} (NextLine.empty refl refl refl) refl LineEnd.cr_lf
       (adds_none m all)
-  adds_none {r = r} (MoreLines.continued {w} {l} {e} {t} {u = u} {v = v} b lead ln end m) all =
+  adds_none {r = r} (MoreLines.continued {w} {l} {e} {t} {u = u} {v = v} goes ln end m) all =
       let whole : (w ++ (l ++ (e ++ t))) ++ r ≡ w ++ (l ++ (e ++ (t ++ r))) = simp append_assoc in
       let parts = all_parts u v all in
-      AddsNone.on (NextLine.blank whole b lead ln) parts.0 end (adds_none m parts.1)
-  adds_none (MoreLines.last {w} {l} b lead ln) all =
-      AddsNone.last (NextLine.blank (append_assoc w l []) b (subst (Lead w) (sym (append-nil l)) lead) ln) all
+      AddsNone.on (NextLine.blank whole goes ln) parts.0 end (adds_none m parts.1)
+  adds_none (MoreLines.last {w} {l} goes ln) all =
+      AddsNone.last
+      (NextLine.blank (append_assoc w l []) (subst (GoesOn o w) (sym (append-nil l)) goes) ln) all
+  adds_none {r = r} (MoreLines.comment {s} {e} {t} noted end m) all =
+      let whole : (s ++ (e ++ t)) ++ r ≡ s ++ (e ++ (t ++ r)) = simp append_assoc in
+      AddsNone.on (NextLine.comment whole refl noted) refl end (adds_none m all)
+  adds_none (MoreLines.last_comment noted) all = AddsNone.last (NextLine.comment refl refl noted) refl
 
   none_own : {X : Type 0} {t x : Text} → AddsNone o t → OwnRest o x t → X
   none_own (AddsNone.done n m) (OwnRest.stop next some) = next_none next n m

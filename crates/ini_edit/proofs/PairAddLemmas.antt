@@ -14,7 +14,8 @@ use Rattle.ini.specs.Edits.{add_in}
 use Rattle.ini.specs.Texts.{Text, is_name}
 use Rattle.ini_edit.specs.Inside.SourceEnds.{IsPlaceAt}
 use Rattle.ini_edit.specs.Inside.Spans.{AreSections}
-use Rattle.ini_edit.specs.SourceEditsAdd.{GapPlace, first_place, pair_put_after, pair_put_first}
+use Rattle.ini_edit.specs.SourceEditsAdd.{GapPlace, end_after, first_place, pair_put_after}
+use Rattle.ini_edit.specs.SourceEditsAdd.{pair_put_first}
 use Rattle.ini_edit.specs.SourceEditsAdd.{pair_put_last, with_line_ended}
 use Rattle.ini_edit.specs.SourceEditsDelete.{gap_after, lines_after}
 use Rattle.ini_edit.specs.SourceEditsAdded.{made, style_after}
@@ -27,7 +28,8 @@ use Rattle.ini_edit.proofs.InsertedPairLemmas.{last_at}
 use Rattle.ini_edit.proofs.SetDocumentLemmas.{edit_at}
 use Rattle.ini_edit.proofs.MakerLemmas.{MakesReadPairs, new_pairs_read}
 use Rattle.ini_edit.proofs.NewStyleLemmas.{new_style_plain, source_for}
-use Rattle.ini_edit.proofs.PairPutLemmas.{feed_end, put_after_any, return_end}
+use Rattle.ini_edit.proofs.PairPutLemmas.{put_after_any}
+use Rattle.ini_edit.proofs.SourceAddLemmas.{feed_end, return_end}
 use Rattle.ini_edit.proofs.PutFirstSectionLemmas.{put_last_sections}
 
 last_after : {A : Type 0} (x : A) (xs : List A) → (last_place x xs).after ≡ []
@@ -99,7 +101,7 @@ module _ (o : ParseOption) (w : WriteOption) (ss : List SectionPiece) {key value
       let l = last_place p ps in
       let same : pair_put_after o end maker_there s.here l ≡ new = cc in
       let ended = with_line_ended o end l.here in
-      let added = maker_there (not o.enabled_indented_mutiline_value) (end ++ lines_after o l.here)
+      let added = maker_there (not o.enabled_indented_mutiline_value) (end_after o end l.here ++ lines_after o l.here)
       (gap_after o l.here) in
       let whole : s.here.pairs ≡ l.before ++ l.here ∷ [] =
       is ∙ (last_at p ps).whole ∙ ap (λ z. l.before ++ l.here ∷ z) (last_after p ps) in

@@ -4,36 +4,31 @@ use Rattle.std.proofs.Common.{append_assoc, append-nil, inl, inr, refl, subst, s
 use Rattle.std.proofs.lemmas.Bool.{and_from, both_ways, cond-false, cond-true, false≢true}
 use Rattle.std.specs.Prelude.{◌⊎◌}
 use Rattle.ini_text.specs.Grammar.CharacterKinds.{BeginsWithNo, is_line_end}
-use Rattle.ini_text.specs.Grammar.Places.{Stretches, TrailingLines, value_source}
+use Rattle.ini_text.specs.Grammar.Places.{Stretches, TrailingLines}
 use Rattle.ini_text.specs.Grammar.Positions.{is_column_one}
 use Rattle.ini_text.specs.Grammar.Strings.{Closes, plain_ends}
-use Rattle.ini_text.specs.Laws.PieceLaws.{BeginAlike}
 use Rattle.ini_text.specs.Options.WriteOptions.{line_end}
 use Rattle.ini_text.specs.Parsing.Fronts.{front_of}
 use Rattle.ini_text.specs.declared.option.ParseOption.{ParseOption}
 use Rattle.ini_text.specs.declared.write.option.LineSeparator.{LineSeparator}
 use Rattle.ini.specs.Texts.{Text}
-use Rattle.ini_edit.specs.Endings.{Closing, Ending, ending_from}
 use Rattle.ini_edit.specs.Inside.Spans.{IsPair}
 use Rattle.ini_edit.specs.Places.{Follows}
 use Rattle.ini_edit.specs.SourceEditsAdd.{closed_value}
 use Rattle.ini_edit.specs.SourceEditsDelete.{line_end_after, lines_after, own_lines}
-use Rattle.ini_edit.specs.SourceLines.{after_line_end, blank_lines_at_end, ends_in_line, is_empty}
+use Rattle.ini_edit.specs.SourceLines.{after_line_end, quiet_lines_at_end, ends_in_line, is_empty}
 use Rattle.ini_edit.specs.SourceLines.{line_end_at_end}
 use Rattle.ini_edit.specs.SourcePlaces.{with_raw_value}
 use Rattle.ini_edit.specs.Sources.{PairPiece}
 use Rattle.ini_edit.proofs.AddedSpanLemmas.{feed_of}
 use Rattle.ini_edit.proofs.AheadLemmas.{FollowsFront, value_closes}
-use Rattle.ini_edit.proofs.ClosedLemmas.{own_ends}
-use Rattle.ini_edit.proofs.EmptyLineLemmas.{closing_nothing}
-use Rattle.ini_edit.proofs.EndedLemmas.{LineEnd-ended, MoreLines-ended, Value-ended, line_end-some-after}
-use Rattle.ini_edit.proofs.EndingLemmas.{ending-white}
+use Rattle.ini_edit.proofs.EndedLemmas.{line_end-some-after}
 use Rattle.ini_edit.proofs.InsertedLemmas.{line_end-closes}
-use Rattle.ini_edit.proofs.LineEndedLemmas.{free_apart, lines_ended, trailing_free}
-use Rattle.ini_edit.proofs.OwnBeforeLemmas.{own_before}
-use Rattle.ini_edit.proofs.ClosedPairLemmas.{closed_is, closed_stretches, ending_from-append, pair_closed}
+use Rattle.ini_edit.proofs.LineEndedLemmas.{lines_ended, trailing_stays}
+use Rattle.ini_edit.proofs.ClosedPairLemmas.{closed_is, closed_stretches, pair_closed}
 use Rattle.ini_edit.proofs.ClosedPairLemmas.{pair_ended, stays_open}
-use Rattle.ini_edit.proofs.PairMoreLemmas.{pair_more}
+use Rattle.ini_edit.proofs.PairMoreLemmas.{trailing_more}
+use Rattle.ini_edit.proofs.PairTailLemmas.{pair_retailed}
 use Rattle.ini_edit.proofs.SectionTakenLemmas.{pair_before, pair_longer, with_trailing}
 use Rattle.ini_edit.proofs.ValueLemmas.{closes_line_end}
 
@@ -57,10 +52,6 @@ pub closes_nothing : (g : Text) → Closes plain_ends g → BeginsWithNo is_line
 closes_nothing [] closes no_end = refl
 closes_nothing (c ∷ g) closes no_end =
     absurd (both_ways (is_line_end c) no_end (closes_line_end c closes))
-
-begins_alike : (t y x : Text) → t ≢ [] → BeginAlike (t ++ y) (t ++ x)
-begins_alike [] y x some = absurd (some refl)
-begins_alike (c ∷ t) y x some = BeginAlike.character
 
 front_there : (g : Text) → g ≢ [] → BeginsWithNo is_line_end g → FollowsFront [] g
 front_there [] some no_end = absurd (some refl)
@@ -121,67 +112,20 @@ module _ {o : ParseOption} (sep : LineSeparator) (p : PairPiece) where
           subst (λ t. IsPair o c (with_trailing t q) p.key p.value x) (sym (append-nil q.trailing_lines)) h
       one_more false h = pair_longer on (feed_of sep) follows some h
 
-      -- at the text's end
-      value_ends : {c : ℕ} → IsPair o c p.stretches p.key p.value [] → (tail p) ≢ []
-          → ending_from o Ending.inside (value_source p.stretches) ≡ ending_from o Ending.inside (tail p)
-      value_ends h more =
-          let s = p.stretches in
-          let own = s.raw_value ++ s.space_after in
-          let text : value_source s ≡ (s.space_before ++ own) ++ (tail p) =
-          ap (λ t. s.space_before ++ t) (sym (append_assoc s.raw_value s.space_after (tail p)))
-          ∙ sym (append_assoc s.space_before own (tail p)) in
-          ap (ending_from o Ending.inside) text
-          ∙ ending_from-append o Ending.inside (s.space_before ++ own) (tail p)
-          ∙ ap (λ e. ending_from o e (tail p))
-          (ending-white o s.space_before own h.white_before
-          ∙ own_ends (λ none. more (sym (append-nil (tail p)) ∙ none)) h.own_lines)
+      -- with a line end more
+      ended_there : {c : ℕ} → (tail p) ≢ [] → IsPair o c p.stretches p.key p.value p.after
+          → IsPair o c (with_trailing ((tail p) ++ line_end sep) p.stretches) p.key p.value x
+      ended_there more h = pair_retailed on more h (trailing_more sep follows on h.are_trailing)
 
       -- the pair as it is, before another text
-      as_it_is : {c : ℕ} → IsPair o c p.stretches p.key p.value [] → (tail p) ≢ []
-          → ending_from o Ending.inside (tail p) ≡ Ending.line → IsPair o c p.stretches p.key p.value x
-      as_it_is h more line = record {
-        key_front = h.key_front;
-        some = h.some;
-        separates = h.separates;
-        gives = Value-ended follows h.gives (value_ends h more ∙ line);
-        white_before = h.white_before;
-        white_after = h.white_after;
-        are_trailing = at h.are_trailing line;
-        own_lines = own_before (begins_alike (tail p) [] x more) h.own_lines;
-        closed = h.closed;
-      }
-        where
-          at : {t : Text} → TrailingLines o t [] → ending_from o Ending.inside t ≡ Ending.line
-              → TrailingLines o t x
-          at (TrailingLines.line off closes) line =
-              absurd (both_ways o.enabled_indented_mutiline_value off on)
-          at (TrailingLines.end _) line = absurd (let no : Ending.inside ≡ Ending.line = line in cc)
-          at (TrailingLines.lines {e} {t} _ end all_lines all) line =
-              let ended = LineEnd-ended follows t [] end line in
-              TrailingLines.lines on ended.0 (MoreLines-ended follows on all_lines ended.1) all
-
-      -- with a line end more, and an empty line or none
-      ended_there : {c : ℕ} (f : Bool) → BeginsWithNo is_line_end p.after → (tail p) ≢ []
-          → IsPair o c p.stretches p.key p.value p.after
-          → IsPair o c (with_trailing ((tail p) ++ line_end sep) p.stretches) p.key p.value x
-      ended_there {c} f no_end more h = elim (nothing_or p.after) [
-        | inl nothing ↦
-            let at_end = subst (IsPair o c p.stretches p.key p.value) nothing h in
-            let free = trailing_free on at_end.are_trailing in
-            pair_more sep follows on at_end
-            (subst (λ e. Closing o e []) (sym (value_ends at_end more))
-            (closing_nothing (ending_from o Ending.inside (tail p)) (free_apart free)))
-            (closing_nothing (ending_from o Ending.inside (tail p)) (free_apart free)) more
-        | inr there ↦ pair_longer on (feed_of sep) follows there h
-      ]
-
       stays_there : {c : ℕ} → BeginsWithNo is_line_end p.after → (tail p) ≢ []
           → ended_pair o p ≡ true
           → IsPair o c p.stretches p.key p.value p.after → IsPair o c p.stretches p.key p.value x
       stays_there {c} no_end more ended h = elim (nothing_or p.after) [
         | inl nothing ↦
-            as_it_is (subst (IsPair o c p.stretches p.key p.value) nothing h) more
-            (lines_ended o p on more ended)
+            let at_end = subst (IsPair o c p.stretches p.key p.value) nothing h in
+            pair_retailed on more at_end
+            (trailing_stays on follows at_end.are_trailing (lines_ended o p on more ended))
         | inr there ↦ pair_before (front_there p.after there no_end) follows h
       ]
 
@@ -225,13 +169,13 @@ module _ {o : ParseOption} (sep : LineSeparator) (p : PairPiece) where
               (record p.stretches { raw_value = r })) p.key p.value x)
               (sym (closed_same false more))
               (regrouped p.stretches (line_end sep) (cond f [] (line_end sep))
-              (one_more f (ended_there f no_end more h)))
+              (one_more f (ended_there more h)))
 
           nothing_ended : (tail p) ≡ []
               → ended_pair o p ≡ false
           nothing_ended none =
               let multi = o.enabled_indented_mutiline_value in
-              let lines : lines_after o p ≡ [] = cond-true multi _ _ on ∙ ap (blank_lines_at_end o) none in
+              let lines : lines_after o p ≡ [] = cond-true multi _ _ on ∙ ap (quiet_lines_at_end o) none in
               let own : own_lines o p ≡ [] =
               cond-true multi _ _ on ∙ ap (front_of (tail p)) lines ∙ ap (λ t. front_of t []) none in
               let line : line_end_after o p ≡ [] =

@@ -9,7 +9,7 @@ use Rattle.ini.specs.Texts.{Text}
 use Rattle.ini_edit.specs.Endings.{ending}
 use Rattle.ini_edit.specs.SourceEditsAdd.{closed_value, ended_lines, is_escape, with_line_ended}
 use Rattle.ini_edit.specs.SourceEditsDelete.{gap_after, line_end_after, lines_after, own_lines}
-use Rattle.ini_edit.specs.SourceLines.{after_line_end, blank_lines_at_end, ends_in_line, is_empty}
+use Rattle.ini_edit.specs.SourceLines.{after_line_end, quiet_lines_at_end, ends_in_line, is_empty}
 use Rattle.ini_edit.specs.SourceLines.{line_end_at_end}
 use Rattle.ini_edit.specs.SourcePlaces.{with_end, with_raw_value}
 use Rattle.ini_edit.specs.Sources.{PairPiece}
@@ -17,11 +17,11 @@ use Rattle.ini_edit.specs.Sources.{PairPiece}
 module _ (o : ParseOption) (p : PairPiece) where
   -- where values are multiline
   module _ (on : o.enabled_indented_mutiline_value ≡ true) where
-    pub lines_on : lines_after o p ≡ blank_lines_at_end o p.stretches.trailing_lines
+    pub lines_on : lines_after o p ≡ quiet_lines_at_end o p.stretches.trailing_lines
     lines_on = cond-true o.enabled_indented_mutiline_value _ _ on
 
     pub own_on : own_lines o p
-        ≡ front_of p.stretches.trailing_lines (blank_lines_at_end o p.stretches.trailing_lines)
+        ≡ front_of p.stretches.trailing_lines (quiet_lines_at_end o p.stretches.trailing_lines)
     own_on = cond-true o.enabled_indented_mutiline_value _ _ on
         ∙ ap (front_of p.stretches.trailing_lines) lines_on
 
@@ -102,7 +102,7 @@ module _ (o : ParseOption) (p : PairPiece) where
 -- the line end after a value, by its parts
 abbrev line_end_of_parts : (o : ParseOption) → Bool → (lines gap : Text) → Text
 line_end_of_parts o on lines gap =
-    let after = cond on (blank_lines_at_end o lines) (after_line_end gap) in
+    let after = cond on (quiet_lines_at_end o lines) (after_line_end gap) in
     let own = cond on (front_of lines after) (front_of gap after) in
     cond (on && not (ends_in_line o own)) [] (line_end_at_end own)
 

@@ -28,11 +28,15 @@ module _ {o : ParseOption} where
   lines_end c (MoreLines.done n m) some h = h
   lines_end c (MoreLines.empty_lf m) some h = lines_end line_feed m some refl
   lines_end c (MoreLines.empty_cr_lf m) some h = lines_end line_feed m some refl
-  lines_end c (MoreLines.continued {w} {l} {e} {t} b lead ln le m) some h =
+  lines_end c (MoreLines.continued {w} {l} {e} {t} goes ln le m) some h =
       let d = last_or (last_or c w) l in
       past c w (l ++ (e ++ t)) (past (last_or c w) l (e ++ t) (past d e t
       (lines_end (last_or d e) m some (line_end_last d le))))
-  lines_end c (MoreLines.last b lead ln) some h = absurd (some refl)
+  lines_end c (MoreLines.last goes ln) some h = absurd (some refl)
+  lines_end c (MoreLines.comment {s} {e} {t} line le m) some h =
+      let d = last_or c s in
+      past c s (e ++ t) (past d e t (lines_end (last_or d e) m some (line_end_last d le)))
+  lines_end c (MoreLines.last_comment line) some h = absurd (some refl)
 
   -- a value, and the lines that give nothing more
   pub value_end : {s r v : Text} (c : ℕ) → o.enabled_indented_mutiline_value ≡ true → Value o s r v → r ≢ []

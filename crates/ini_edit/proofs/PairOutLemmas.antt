@@ -74,12 +74,12 @@ module _ (o : ParseOption) (xs zs : List Span) (a b : Text) (p : Stretches) (key
           let ahead : AreSpans o line_feed front new =
           spans_ahead (mark_may_follow semicolon ((C ++ []) ++ (following ++ [])) refl) front
           (KeyFront-alike Alike.same is.key_front) (subst (AreSpans o line_feed front) text before) in
-          let ends : Agree (last_or last (pair_source p ++ (b ++ [])) ∷ [])
+          let ends : Agree o (last_or last (pair_source p ++ (b ++ [])) ∷ [])
           (last_or last ((semicolon ∷ C) ++ []) ∷ []) following =
-          subst (λ z. Agree (z ∷ []) (last_or last ((semicolon ∷ C) ++ []) ∷ []) following)
+          subst (λ z. Agree o (z ∷ []) (last_or last ((semicolon ∷ C) ++ []) ∷ []) following)
           (sym (ap (λ t. last_or last (pair_source p ++ t)) (append-nil b)
           ∙ last_or-append last (pair_source p) b))
-          (subst (λ z. Agree (last_or (last_or last (pair_source p)) b ∷ []) (z ∷ []) following)
+          (subst (λ z. Agree o (last_or (last_or last (pair_source p)) b ∷ []) (z ∷ []) following)
           (sym (ap (last_or last) (append-nil (semicolon ∷ C)))) made.agrees) in
           gaps_joined xs a (semicolon ∷ C) zs
           (subst (λ l. AreSpans o line_feed l []) (append_assoc xs (gap a ∷ []) (gap (semicolon ∷ C) ∷ zs))

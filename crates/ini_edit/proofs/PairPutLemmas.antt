@@ -1,8 +1,6 @@
 -- A new pair put into a text in pieces, directly after another.
 use Rattle.std.proofs.Common.{◌≡◌, ◌∙◌, ◌+◌, ℕ, Bool, true, false, not, List, [], ◌∷◌, ◌++◌, Option, ap}
-use Rattle.std.proofs.Common.{append_assoc, get_or, refl, set, subst, sym}
-use Rattle.ini_text.specs.Grammar.CharacterKinds.{carriage_return, line_feed}
-use Rattle.ini_text.specs.Grammar.Values.{LineEnd}
+use Rattle.std.proofs.Common.{append_assoc, get_or, set, subst, sym}
 use Rattle.ini_text.specs.Laws.Plain.{IsPlainKey, IsReadBack}
 use Rattle.ini_text.specs.Options.WriteOptions.{line_end}
 use Rattle.ini_text.specs.declared.option.ParseOption.{ParseOption}
@@ -14,7 +12,7 @@ use Rattle.ini.specs.Texts.{Text}
 use Rattle.ini_edit.specs.Inside.SourceEnds.{IsNewPair, IsPairAt, IsPlaceAt, made_pair, style_at}
 use Rattle.ini_edit.specs.Inside.Spans.{AreSections}
 use Rattle.ini_edit.specs.SourceEdits.{with_pairs}
-use Rattle.ini_edit.specs.SourceEditsAdd.{Maker, pair_put_after, with_line_ended}
+use Rattle.ini_edit.specs.SourceEditsAdd.{Maker, end_after, pair_put_after, with_line_ended}
 use Rattle.ini_edit.specs.SourceEditsAdded.{inserted_after, made, new_line_end, style_after}
 use Rattle.ini_edit.specs.SourceEditsDelete.{gap_after, lines_after}
 use Rattle.ini_edit.specs.SourcePlaces.{PairPlace, Place, exchanged}
@@ -25,14 +23,8 @@ use Rattle.ini_edit.proofs.NewPairLemmas.{IsPlainStyle, IsSourceFor}
 use Rattle.ini_edit.proofs.NewStyleLemmas.{new_style_plain, source_for, style_is_new}
 use Rattle.ini_edit.proofs.PutAfterLemmas.{put_after}
 use Rattle.ini_edit.proofs.PutAfterMoreLemmas.{put_after_more}
-use Rattle.ini_edit.proofs.SourceAddLemmas.{IsNewEnd}
+use Rattle.ini_edit.proofs.SourceAddLemmas.{feed_end, return_end}
 use Rattle.ini_edit.proofs.SourcePlaceLemmas.{place_read, place_set, place_take_more}
-
-pub feed_end : IsNewEnd line_feed []
-feed_end = record { all = refl; feed = refl; is_end = λ r. LineEnd.lf }
-
-pub return_end : IsNewEnd carriage_return (line_feed ∷ [])
-return_end = record { all = refl; feed = refl; is_end = λ r. LineEnd.cr_lf }
 
 -- the sections with a new pair after one, by any options
 pub put_after_any : (o : ParseOption) (sep : LineSeparator) {policy : EscapePolicy} {key value source :
@@ -78,7 +70,7 @@ pub same_made : (o : ParseOption) (end : Text) {make other : Maker} (s : Section
     → pair_put_after o end make s p ≡ pair_put_after o end other s p
 same_made o end s p same =
     ap (λ q. with_pairs s (exchanged p (with_line_ended o end p.here ∷ q ∷ [])))
-    (same (not o.enabled_indented_mutiline_value) (end ++ lines_after o p.here) (gap_after o p.here))
+    (same (not o.enabled_indented_mutiline_value) (end_after o end p.here ++ lines_after o p.here) (gap_after o p.here))
 
 module _ (o : ParseOption) (w : WriteOption) (ss : List SectionPiece) {key value source : Text}
     (writable : IsWritableNew o w key value)

@@ -12,6 +12,7 @@ use Rattle.ini_edit.specs.Inside.Spans.{AreSpans, IsPair, IsSpan, Span, opening,
 use Rattle.ini_edit.specs.SourceReads.{ArePlacedSpans, IsPlacedSpan}
 use Rattle.ini_edit.proofs.ClosedLemmas.{closed_space}
 use Rattle.ini_edit.proofs.FindLemmas.{white_after}
+use Rattle.ini_edit.proofs.PadLemmas.{starts_front}
 
 module _ {o : ParseOption} where
   -- of what stands before a pair its place depends on the last character alone
@@ -36,6 +37,7 @@ module _ {o : ParseOption} where
     separates = h.separates;
     gives = h.gives;
     white_before = h.space_before.white;
+    starts = starts_front _ _ h.space_before.ends;
     white_after = white_after h.space_after;
     are_trailing = h.trailing_lines;
     own_lines = h.raw_value;

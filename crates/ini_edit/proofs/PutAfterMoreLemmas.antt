@@ -1,14 +1,14 @@
 -- A pair put directly after another in a text in pieces where values may be multiline: the blank lines after
 -- that pair's own lines are the new pair's then.
-use Rattle.std.proofs.Common.{◌≡◌, ◌≢◌, ◌==◌, ◌≤◌, ◌∙◌, ◌&&◌, ℕ, Bool, true, false, not, List, [], ◌∷◌}
-use Rattle.std.proofs.Common.{◌++◌, ap, append_assoc, append-nil, arith, if◌then◌else◌, length, refl, subst}
+use Rattle.std.proofs.Common.{◌≡◌, ◌≢◌, ◌==◌, ◌∙◌, ◌&&◌, ℕ, Bool, true, false, not, List, [], ◌∷◌}
+use Rattle.std.proofs.Common.{◌++◌, ap, append_assoc, append-nil, if◌then◌else◌, refl, subst}
 use Rattle.std.proofs.Common.{sym}
 use Rattle.std.proofs.lemmas.Bool.{both_ways, false≢true, or_left}
 use Rattle.ini_text.specs.Grammar.CharacterKinds.{BeginsWith, BeginsWithNo, carriage_return, is_blank}
-use Rattle.ini_text.specs.Grammar.CharacterKinds.{is_line_end, is_line_feed, line_feed}
+use Rattle.ini_text.specs.Grammar.CharacterKinds.{is_comment_mark, is_line_end, is_line_feed, line_feed}
 use Rattle.ini_text.specs.Grammar.Places.{Stretches, TrailingLines, pair_source, value_source}
 use Rattle.ini_text.specs.Grammar.Positions.{last_or, starts_line}
-use Rattle.ini_text.specs.Grammar.Values.{MoreLines, Value}
+use Rattle.ini_text.specs.Grammar.Values.{MoreLines}
 use Rattle.ini_text.specs.Laws.PieceLaws.{Agree}
 use Rattle.ini_text.specs.Laws.Plain.{IsPlainKey, IsReadBack}
 use Rattle.ini_text.specs.Options.WriteOptions.{line_end}
@@ -18,41 +18,38 @@ use Rattle.ini_text.specs.declared.write.option.LineSeparator.{LineSeparator}
 use Rattle.ini_text.specs.declared.write.option.LineSeparator.TheVariants.{SystemDefault, CR, CRLF}
 use Rattle.ini_text.specs.declared.write.policy.EscapePolicy.{EscapePolicy}
 use Rattle.ini_text.proofs.LawLemmas.LocalLemmas.{Agree-front}
-use Rattle.ini_text.proofs.LawLemmas.OneAheadLemmas.{Alike, Alike-some}
 use Rattle.ini_text.proofs.LawLemmas.PieceLemmas.{last_or-append}
-use Rattle.ini_text.proofs.PlainLemmas.PlainPairLemmas.{line_end-is}
 use Rattle.ini_text.proofs.StringLemmas.FrontLemmas.{front_is}
 use Rattle.ini.specs.Texts.{Text}
-use Rattle.ini_edit.specs.Endings.{Closing, Ending, ending, ending_from}
+use Rattle.ini_edit.specs.Endings.{ending}
 use Rattle.ini_edit.specs.Inside.InPlace.{AreInPlace}
 use Rattle.ini_edit.specs.Inside.SourceEnds.{IsPlaceAt}
 use Rattle.ini_edit.specs.Inside.Spans.{AreSections, AreSpans, IsPair, IsSpan, Span, gap, pair}
 use Rattle.ini_edit.specs.Inside.Spans.{span_source}
 use Rattle.ini_edit.specs.Places.{Follows}
 use Rattle.ini_edit.specs.SourceEditsAdd.{Maker, closed_value, ended_lines, pair_put_after, with_line_ended}
-use Rattle.ini_edit.specs.SourceLines.{blank_lines_at_end, blank_lines_from, ends_in_line, is_empty}
-use Rattle.ini_edit.specs.SourceLines.{is_line_from, line_end_at_end}
+use Rattle.ini_edit.specs.SourceLines.{LinePlace, ends_in_line, is_empty, line_end_at_end}
+use Rattle.ini_edit.specs.SourceLines.{quiet_lines_at_end}
 use Rattle.ini_edit.specs.SourcePlaces.{Place, exchanged}
 use Rattle.ini_edit.specs.SourceWritten.{Style, new_pair}
 use Rattle.ini_edit.specs.Sources.{PairPiece, SectionPiece, joined}
 use Rattle.ini_edit.proofs.AheadLemmas.{value_follows}
-use Rattle.ini_edit.proofs.BlankLineLemmas.{Passes, line_last, passes_white, trailing_blank}
-use Rattle.ini_edit.proofs.ClosedLemmas.{own_ends}
-use Rattle.ini_edit.proofs.ClosedPairLemmas.{closed_is, closing_of, ending_from-append, pair_ended}
+use Rattle.ini_edit.proofs.BlankLineLemmas.{line_last, trailing_blank}
+use Rattle.ini_edit.proofs.ClosedPairLemmas.{closed_is, closing_of, pair_ended}
 use Rattle.ini_edit.proofs.ClosedPairLemmas.{stays_open}
 use Rattle.ini_edit.proofs.DeletedLinesLemmas.{end_last}
-use Rattle.ini_edit.proofs.EndingLemmas.{ending-white}
-use Rattle.ini_edit.proofs.GapLemmas.{gap_like, no_gap, spans_column}
-use Rattle.ini_edit.proofs.GluedLemmas.{lines_glued}
+use Rattle.ini_edit.proofs.GapLemmas.{gap_like, no_gap}
 use Rattle.ini_edit.proofs.InPlaceLemmas.{Agree-after, in_place-exchanged, in_place-split}
+use Rattle.ini_edit.proofs.NewEndLemmas.{IsEndMore, more_end, trailing_last, trailing_line_end}
+use Rattle.ini_edit.proofs.NewEndLemmas.{written_more}
 use Rattle.ini_edit.proofs.NewPairLemmas.{IsPlainStyle, IsSourceFor, new_pair_follows, new_pair_is}
-use Rattle.ini_edit.proofs.OwnBeforeLemmas.{own_alike}
-use Rattle.ini_edit.proofs.SourceAddLemmas.{keys_alike}
-use Rattle.ini_edit.proofs.SourceLineLemmas.{blank_lines_at_end-rest}
+use Rattle.ini_edit.proofs.PairTailLemmas.{pair_retailed}
+use Rattle.ini_edit.proofs.SourceAddLemmas.{keys_alike, spans_column_off}
+use Rattle.ini_edit.proofs.SourceLineLemmas.{quiet_lines_at_end-rest}
 use Rattle.ini_edit.proofs.SourcePartLemmas.{source_last}
 use Rattle.ini_edit.proofs.SourceSpanLemmas.{pairs_put_in, spans_after_pairs, spans_before_pairs}
 use Rattle.ini_edit.proofs.SpanLemmas.{spans_local}
-use Rattle.ini_edit.proofs.ValueCutLemmas.{TrailingCut, own_passes, trailing_cut, value_cut}
+use Rattle.ini_edit.proofs.ValueCutLemmas.{TrailingCut, trailing_cut}
 
 -- the options with values that may be multiline
 abbrev pub many_lines : ParseOption → ParseOption
@@ -85,15 +82,11 @@ end_some : (o : ParseOption) (t : Text) → t ≢ [] → ends_in_line o t ≡ tr
 end_some o t some ends = at (line_end_at_end t) (end_last 0 0 t some last)
   where
     last : is_line_end (last_or 0 t) ≡ true
-    last = line_last o Ending.inside 0 t (λ h. absurd (false≢true h)) ends
+    last = line_last o LinePlace.within 0 t (λ h. absurd (false≢true h)) ends
 
     at : (e : Text) → last_or 0 e ≡ last_or 0 t → is_empty e ≡ false
     at [] same = absurd (false≢true (ap is_line_end same ∙ last))
     at (c ∷ e) same = refl
-
-some_length : (t : Text) → t ≢ [] → 1 ≤ length t
-some_length [] some = absurd (some refl)
-some_length (c ∷ t) some = omega arith
 
 some_more : (t r : Text) → t ≢ [] → t ++ r ≢ []
 some_more [] r some h = some refl
@@ -125,104 +118,27 @@ module _ (o₀ : ParseOption) (sep : LineSeparator) where
     kept_value : t ≢ [] → closed_value o p ≡ p.stretches.raw_value
     kept_value some = stays_open o p (ap (λ b. b && is_empty p.after) (not_empty t some))
 
-    cut_lines : (front : Text) → front ≢ [] → t ≡ front ++ blank_lines_at_end o t
+    cut_lines : (front : Text) → front ≢ [] → t ≡ front ++ quiet_lines_at_end o t
         → ends_in_line o front ≡ true
         → ended_lines o end p ≡ front
     cut_lines front some whole ends =
-        ap lines_with (front_is front (blank_lines_at_end o t) t (sym whole))
+        ap lines_with (front_is front (quiet_lines_at_end o t) t (sym whole))
         ∙ ap (λ b. front ++ (if is_empty (if not b then [] else line_end_at_end front) then end else
         [])) ends
         ∙ ap (λ b. front ++ (if b then end else [])) (end_some o front some ends)
         ∙ append-nil front
 
-    glued_lines : blank_lines_at_end o t ≡ [] → ends_in_line o t ≡ false → ended_lines o end p ≡ t ++ end
+    glued_lines : quiet_lines_at_end o t ≡ [] → ends_in_line o t ≡ false → ended_lines o end p ≡ t ++ end
     glued_lines none inside =
-        ap lines_with (front_is t (blank_lines_at_end o t) t (ap (λ b. t ++ b) none ∙ append-nil t))
+        ap lines_with (front_is t (quiet_lines_at_end o t) t (ap (λ b. t ++ b) none ∙ append-nil t))
         ∙ ap (λ b. t ++ (if is_empty (if not b then [] else line_end_at_end t) then end else [])) inside
 
     no_lines : t ≡ [] → ended_lines o end p ≡ end
-    no_lines none = ap (λ z. lines_with (front_of z (blank_lines_at_end o z))) none
+    no_lines none = ap (λ z. lines_with (front_of z (quiet_lines_at_end o z))) none
 
     -- the pair with its line ended, before what may follow it
     module _ {c : ℕ} {r : Text} (is : IsPair o c p.stretches p.key p.value r) (x : Text)
         (follows : Follows o x) where
-      abbrev with_trailing : Text → Stretches
-      with_trailing lines = record p.stretches { trailing_lines = lines }
-
-      source_of : Text → Text
-      source_of lines =
-          p.stretches.space_before ++ (p.stretches.raw_value ++ (p.stretches.space_after ++ lines))
-
-      -- up to its trailing lines the value is passed
-      passed : t ≢ [] → (z : Text)
-          → (blank_lines_from o Ending.inside (value_source (with_trailing z)) ≡ blank_lines_at_end o z)
-          × (is_line_from o Ending.inside (value_source (with_trailing z)) ≡ ends_in_line o z)
-      passed some z =
-          let own = p.stretches.raw_value ++ p.stretches.space_after in
-          let one : Passes o p.stretches.space_before (own ++ z) =
-          passes_white o p.stretches.space_before is.white_before in
-          let two = own_passes (some_more t r some) is.own_lines z in
-          let seam : value_source (with_trailing z) ≡ p.stretches.space_before ++ (own ++ z) =
-          simp append_assoc in (
-            ap (blank_lines_from o Ending.inside) seam ∙ one.blank ∙ two.blank,
-            ap (is_line_from o Ending.inside) seam ∙ one.line ∙ two.line,
-          )
-
-      ended_cut : (front : Text) → front ≢ [] → t ≡ front ++ blank_lines_at_end o t
-          → ends_in_line o front ≡ true
-          → TrailingLines o front x → IsPair o c (with_trailing front) p.key p.value x
-      ended_cut front some whole ends trailing =
-          let b = blank_lines_at_end o t in
-          let there : t ≢ [] = λ none. some_more front b some (sym whole ∙ none) in
-          let seam : value_source p.stretches ≡ value_source (with_trailing front) ++ b =
-          ap (λ z. value_source (with_trailing z)) whole ∙ simp append_assoc in
-          let alike : Alike (t ++ r) (front ++ x) =
-          subst (λ z. Alike z (front ++ x))
-          (sym (ap (λ z. z ++ r) whole ∙ append_assoc front b r))
-          (Alike-some front (b ++ r) x (some_length front some)) in
-          record {
-            key_front = is.key_front;
-            some = is.some;
-            separates = is.separates;
-            gives = value_cut refl (value_source (with_trailing front)) is.gives
-                (seam ∙ ap (λ z. value_source (with_trailing front) ++ z) (sym (passed there t).0))
-                ((passed there front).1 ∙ ends) follows;
-            white_before = is.white_before;
-            white_after = is.white_after;
-            are_trailing = trailing;
-            own_lines = own_alike alike is.own_lines;
-            closed = is.closed;
-          }
-
-      ended_glued : t ≢ [] → Closing o (ending_from o Ending.inside t) [] → TrailingLines o (t ++ end) x
-          → IsPair o c (with_trailing (t ++ end)) p.key p.value x
-      ended_glued some closing trailing =
-          let own = p.stretches.raw_value ++ p.stretches.space_after in
-          let source : value_source p.stretches ≡ p.stretches.space_before ++ (own ++ t) =
-          simp append_assoc in
-          let ends : ending_from o Ending.inside (value_source p.stretches) ≡ ending_from o Ending.inside t =
-          ap (ending_from o Ending.inside) source
-          ∙ ending-white o p.stretches.space_before (own ++ t) is.white_before
-          ∙ ending_from-append o Ending.inside own t
-          ∙ ap (λ e. ending_from o e t) (own_ends (some_more t r some) is.own_lines) in
-          let seam : value_source p.stretches ++ end ≡ value_source (with_trailing (t ++ end)) =
-          simp append_assoc in
-          let alike : Alike (t ++ r) ((t ++ end) ++ x) =
-          subst (Alike (t ++ r)) (sym (append_assoc t end x))
-          (Alike-some t r (end ++ x) (some_length t some)) in
-          record {
-            key_front = is.key_front;
-            some = is.some;
-            separates = is.separates;
-            gives = subst (λ s. Value o s x p.value) seam
-                (lines_glued sep follows refl [] is.gives (subst (λ e. Closing o e []) (sym ends) closing));
-            white_before = is.white_before;
-            white_after = is.white_after;
-            are_trailing = trailing;
-            own_lines = own_alike alike is.own_lines;
-            closed = is.closed;
-          }
-
       -- in each case a line starts after it
       pub record IsEnded : Type 0 where
         pub is_pair : IsPair o c ended.stretches p.key p.value x
@@ -248,14 +164,14 @@ module _ (o₀ : ParseOption) (sep : LineSeparator) where
 
           at : TrailingCut o t r → IsEnded
           at (TrailingCut.cut front some whole ends are) =
-              let b = blank_lines_at_end o t in
+              let b = quiet_lines_at_end o t in
               let there : t ≢ [] = λ none. some_more front b some (sym whole ∙ none) in
               ended_so raw front (kept_value there) (cut_lines front some whole ends)
-              (ended_cut front some whole ends (are x follows))
-              (λ d. line_last o Ending.inside d front (λ h. absurd (false≢true h)) ends)
-          at (TrailingCut.unended some none empty inside closing are) =
+              (pair_retailed refl there is (are x follows))
+              (λ d. line_last o LinePlace.within d front (λ h. absurd (false≢true h)) ends)
+          at (TrailingCut.unended some none empty inside are) =
               ended_so raw (t ++ end) (kept_value some) (glued_lines none inside)
-              (ended_glued some closing (are sep x follows))
+              (pair_retailed refl some is (are sep x follows))
               (λ d. ap is_line_end (last_or-append d t end)
               ∙ feed_ends (last_or (last_or d t) end) (end_feed sep (last_or d t)))
           at (TrailingCut.nothing none empty) =
@@ -277,10 +193,13 @@ module _ (o₀ : ParseOption) (sep : LineSeparator) {policy : EscapePolicy} {key
     o₁ = many_lines o₀
 
     abbrev blank : Text
-    blank = blank_lines_at_end o₁ p.stretches.trailing_lines
+    blank = quiet_lines_at_end o₁ p.stretches.trailing_lines
+
+    abbrev new_end : Text
+    new_end = more_end o₁ (line_end sep) p.stretches.trailing_lines
 
     abbrev lines : Text
-    lines = line_end sep ++ blank
+    lines = new_end ++ blank
 
     abbrev made : Stretches
     made = (make false lines p.after).stretches
@@ -289,18 +208,19 @@ module _ (o₀ : ParseOption) (sep : LineSeparator) {policy : EscapePolicy} {key
     shut = with_line_ended o₁ (line_end sep) p
 
     -- the last characters of both pairs
-    last_made : (d : ℕ) → last_or d (pair_source made) ≡ last_or (last_or d (line_end sep)) blank
-    last_made d =
-        sym (source_last d made) ∙ last_or-append _ (line_end sep) blank ∙ ap (λ e. last_or e blank)
-        (ends_same sep _ d)
+    last_made : {r : Text} → IsEndMore o₁ p.stretches.trailing_lines r new_end → (d : ℕ)
+        → last_or d (pair_source made) ≡ last_or (last_or d new_end) blank
+    last_made is_end d =
+        sym (source_last d made) ∙ last_or-append _ new_end blank ∙ ap (λ e. last_or e blank)
+        (is_end.same _ d)
 
-    -- before what follows both the old pair's gap and the new one's are read alike
-    ends_feed : (d e : ℕ) (b f : Text) → p.stretches.trailing_lines ≡ f ++ b
-        → is_line_feed (last_or d p.stretches.trailing_lines) ≡ true
-        → is_line_feed (last_or (last_or e (line_end sep)) b) ≡ true
-    ends_feed d e [] f whole h = end_feed sep e
-    ends_feed d e (x ∷ b) f whole h =
-        sym (ap is_line_feed (ap (last_or d) whole ∙ last_or-append d f (x ∷ b))) ∙ h
+    -- a line ends with the new pair's lines, where one does with the old pair's
+    made_ends : {r : Text} → IsEndMore o₁ p.stretches.trailing_lines r new_end → (d e : ℕ) (b f : Text)
+        → p.stretches.trailing_lines ≡ f ++ b → is_line_end (last_or d p.stretches.trailing_lines) ≡ true
+        → is_line_end (last_or (last_or e new_end) b) ≡ true
+    made_ends is_end d e [] f whole h = is_end.ends e
+    made_ends is_end d e (x ∷ b) f whole h =
+        sym (ap is_line_end (ap (last_or d) whole ∙ last_or-append d f (x ∷ b))) ∙ h
 
     spans_put_more : AreSpans o₁ line_feed (xs ++ (pair p.stretches p.key p.value ∷ gap p.after ∷ zs)) []
         → AreSpans o₁ line_feed
@@ -332,21 +252,35 @@ module _ (o₀ : ParseOption) (sep : LineSeparator) {policy : EscapePolicy} {key
             let there = trailing_blank refl was.are_trailing in
             let same : (gap_text ++ z) ++ [] ≡ r =
             append_assoc gap_text z [] ∙ ap (λ t. t ++ (z ++ [])) (sym (append-nil gap_text)) in
+            let follow = value_follows refl was.gives in
+            let trailed : TrailingLines o₁ p.stretches.trailing_lines r =
+            subst (TrailingLines o₁ p.stretches.trailing_lines) same was.are_trailing in
+            let is_end : IsEndMore o₁ p.stretches.trailing_lines r new_end =
+            written_more refl trailed (subst (Follows o₁) same follow) sep (λ off mark d.
+            ap is_line_feed (trailing_last refl trailed mark d _ ∙ source_last c p.stretches)
+            ∙ spans_column_off off (gap gap_text ∷ zs) (AreInPlace.more (IsSpan.is_gap g) rest)
+            (subst (BeginsWith is_comment_mark) (append-nil (gap_text ++ z))
+            (subst (BeginsWith is_comment_mark) (sym same) mark))) in
             let trailing : TrailingLines o₁ lines r =
-            TrailingLines.lines refl (line_end-is sep (blank ++ r))
+            TrailingLines.lines refl is_end.is_end
             (subst (λ y. MoreLines o₁ blank y there.value) same there.are) there.all in
             let made_is : IsPair o₁ cs made key value r =
             new_pair_is plain read_back is given false lines gap_text starts trailing in
-            let agree : Agree (cp ∷ []) (cq ∷ []) (gap_text ++ z) = record {
+            let mark_later : BeginsWith is_comment_mark (gap_text ++ z) → BeginsWith is_comment_mark r =
+            λ m. subst (BeginsWith is_comment_mark) (sym (append-nil (gap_text ++ z)) ∙ same) m in
+            let agree : Agree o₁ (cp ∷ []) (cq ∷ []) (gap_text ++ z) = record {
               line = λ b. absurd (no_both is_blank ((gap_text ++ z) ++ [])
                   (subst (BeginsWith is_blank) (sym (append-nil (gap_text ++ z))) b)
                   ((value_follows refl was.gives).no_blank refl));
               column = λ m.
-                  let feed = spans_column (gap gap_text ∷ zs) (AreInPlace.more (IsSpan.is_gap g) rest) m in
-                  feed ∙ sym (ap is_line_feed (last_made cs)
-                  ∙ ends_feed _ cs blank (front_of p.stretches.trailing_lines blank)
-                  (sym (blank_lines_at_end-rest o₁ p.stretches.trailing_lines))
-                  (ap is_line_feed (source_last c p.stretches) ∙ feed));
+                  ap is_line_feed (sym (source_last c p.stretches))
+                  ∙ sym (is_end.column (mark_later m) cs _) ∙ sym (ap is_line_feed (last_made is_end cs));
+              comment = λ _ m.
+                  let ends = trailing_line_end refl trailed (mark_later m) _ in
+                  ap is_line_end (sym (source_last c p.stretches)) ∙ ends
+                  ∙ sym (ap is_line_end (last_made is_end cs) ∙ made_ends is_end _ cs blank
+                  (front_of p.stretches.trailing_lines blank)
+                  (sym (quiet_lines_at_end-rest o₁ p.stretches.trailing_lines)) ends);
             } in
             in_place-exchanged span_source spans_local xs
             (pair p.stretches p.key p.value ∷ gap gap_text ∷ [])
@@ -358,11 +292,11 @@ module _ (o₀ : ParseOption) (sep : LineSeparator) {policy : EscapePolicy} {key
             (keys_alike p.stretches.key p.stretches.separator (value_source p.stretches)
             (value_source shut.stretches) (gap_text ++ []) (pair_source made ++ (gap_text ++ [])) (z ++ [])
             (z ++ []))
-            (subst (λ d. Agree (d ∷ []) (last_or c (pair_source shut.stretches
+            (subst (λ d. Agree o₁ (d ∷ []) (last_or c (pair_source shut.stretches
             ++ (pair_source made ++ (gap_text ++ []))) ∷ []) z)
             (sym (last_or-append c (pair_source p.stretches) (gap_text ++ [])
             ∙ ap (last_or cp) (append-nil gap_text)))
-            (subst (λ d. Agree (last_or cp gap_text ∷ []) (d ∷ []) z)
+            (subst (λ d. Agree o₁ (last_or cp gap_text ∷ []) (d ∷ []) z)
             (sym (last_or-append c (pair_source shut.stretches) (pair_source made ++ (gap_text ++ []))
             ∙ last_or-append cs (pair_source made) (gap_text ++ [])
             ∙ ap (last_or cq) (append-nil gap_text)))

@@ -76,9 +76,9 @@ module _ (o : ParseOption) (xs zs : List Span) (q : Stretches) (key value kept c
           (sym (append_assoc (pair_source q) (joined span_source zs) []) ∙ none) in
           let parts = comments_parted kept comments some column g in
           let last = last_or (last_or glued (pair_source n.stretches)) n.after in
-          let agrees : Agree (last_or front_last (kept ++ comments) ∷ []) (last ∷ [])
+          let agrees : Agree o (last_or front_last (kept ++ comments) ∷ []) (last ∷ [])
           (joined span_source there) =
-          subst (Agree (last_or front_last (kept ++ comments) ∷ []) (last ∷ []))
+          subst (Agree o (last_or front_last (kept ++ comments) ∷ []) (last ∷ []))
           (sym (pair_then q (joined span_source zs)))
           (key_agrees (KeyFront-alike Alike.same is.key_front) new.column) in
           in_place-join span_source xs (gap (kept ++ glue) ∷ with_new)

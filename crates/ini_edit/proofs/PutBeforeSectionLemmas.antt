@@ -17,7 +17,6 @@ use Rattle.ini_text.specs.declared.option.ParseOption.{ParseOption}
 use Rattle.ini_text.proofs.LawLemmas.PieceLemmas.{last_or-append}
 use Rattle.ini_text.proofs.StringLemmas.FrontLemmas.{front_is}
 use Rattle.ini.specs.Texts.{Text}
-use Rattle.ini_edit.specs.Endings.{Ending}
 use Rattle.ini_edit.specs.Inside.InPlace.{AreInPlace}
 use Rattle.ini_edit.specs.Inside.SourceEnds.{IsPlaceAt}
 use Rattle.ini_edit.specs.Inside.Spans.{AreSections, AreSpans, IsGap, IsPair, IsSpan, Span}
@@ -25,7 +24,7 @@ use Rattle.ini_edit.specs.Inside.Spans.{gap}
 use Rattle.ini_edit.specs.Inside.Spans.{opening, pair, pairs_spans, sections_spans, span_source}
 use Rattle.ini_edit.specs.Places.{Follows}
 use Rattle.ini_edit.specs.SourceEditsAdd.{Maker, pair_put_before, would_go_on}
-use Rattle.ini_edit.specs.SourceLines.{are_comments, comments_at_end, is_empty}
+use Rattle.ini_edit.specs.SourceLines.{LinePlace, are_comments, comments_at_end, is_empty}
 use Rattle.ini_edit.specs.SourcePlaces.{Place, exchanged, gap_of, gap_put, is_nil, last_before_gap}
 use Rattle.ini_edit.specs.SourcePlaces.{last_before_section}
 use Rattle.ini_edit.specs.Sources.{PairPiece, SectionPiece, joined}
@@ -49,7 +48,7 @@ pub pair_ends_line : {o : ParseOption} {c : ℕ} {p : Stretches} {key value r : 
     → is_line_end (last_or c (pair_source p)) ≡ true
 pair_ends_line {o = o} {c = c} {p = p} on some is =
     ap is_line_end (tail_last c p)
-    ∙ line_last o Ending.inside (last_or c (before_tail p)) p.trailing_lines
+    ∙ line_last o LinePlace.within (last_or c (before_tail p)) p.trailing_lines
     (λ inner. absurd (false≢true inner))
     (trailing_ends some on is.are_trailing)
 

@@ -7,8 +7,9 @@ use Rattle.std.proofs.lemmas.Bool.{and_parts, both_ways, cases_Bool, cond-false,
 use Rattle.std.specs.List.{list_all}
 use Rattle.std.specs.Option.{option_map}
 use Rattle.std.specs.Prelude.{is_none}
-use Rattle.ini_text.specs.Grammar.CharacterKinds.{BeginsWith, BeginsWithNo, is_line_end, is_line_feed}
-use Rattle.ini_text.specs.Grammar.CharacterKinds.{line_feed}
+use Rattle.ini_text.specs.Grammar.CharacterKinds.{BeginsWith, BeginsWithNo, is_comment_mark, is_line_end}
+use Rattle.ini_text.specs.Grammar.CharacterKinds.{is_line_feed, line_feed}
+use Rattle.ini_text.specs.Grammar.Places.{pair_source}
 use Rattle.ini_text.specs.Grammar.Positions.{last_or}
 use Rattle.ini_text.specs.Grammar.Values.{LineEnd}
 use Rattle.ini_text.specs.Laws.PieceLaws.{BeginAlike}
@@ -18,20 +19,24 @@ use Rattle.ini_text.proofs.LawLemmas.PieceLemmas.{last_or-append}
 use Rattle.ini.specs.Texts.{Text}
 use Rattle.ini_edit.specs.Inside.InPlace.{AreInPlace}
 use Rattle.ini_edit.specs.Inside.SourceEnds.{IsPlaceAt}
-use Rattle.ini_edit.specs.Inside.Spans.{AreSections, AreSpans, BeginGeneral, IsSpan, Span, gap, opening}
+use Rattle.ini_edit.specs.Inside.Spans.{AreSections, AreSpans, BeginGeneral, IsGap, IsPair, IsSpan}
+use Rattle.ini_edit.specs.Inside.Spans.{Span, gap, opening}
 use Rattle.ini_edit.specs.Inside.Spans.{sections_spans, span_source}
 use Rattle.ini_edit.specs.SourceLines.{is_blank_or_line_end}
-use Rattle.ini_edit.specs.SourceEditsAdd.{GapPlace, Maker, first_place, pair_put_first, pair_put_last}
+use Rattle.ini_edit.specs.SourceEditsAdd.{GapPlace, Maker, end_at, first_place, pair_put_first}
+use Rattle.ini_edit.specs.SourceEditsAdd.{pair_put_last}
 use Rattle.ini_edit.specs.SourceLines.{is_empty}
 use Rattle.ini_edit.specs.SourcePlaces.{Place, exchanged, is_nil}
 use Rattle.ini_edit.specs.Sources.{PairPiece, SectionPiece, joined}
 use Rattle.ini_edit.proofs.CommentRowLemmas.{IsNewLine}
 use Rattle.ini_edit.proofs.CommentSectionLemmas.{general_first}
-use Rattle.ini_edit.proofs.FirstPlaceLemmas.{StandsIn, begins_gap, first_stands, header_opens}
+use Rattle.ini_edit.proofs.FirstPlaceLemmas.{IsFirstPlace, IsFreePlace, StandsIn, begins_gap}
+use Rattle.ini_edit.proofs.FirstPlaceLemmas.{first_stands, header_opens}
 use Rattle.ini_edit.proofs.FirstStaysLemmas.{first_some, first_stays}
 use Rattle.ini_edit.proofs.InPlaceLemmas.{in_place-before, in_place-join, in_place-split, joined-append}
-use Rattle.ini_edit.proofs.MakerLemmas.{MakesReadPairs, made_there}
-use Rattle.ini_edit.proofs.PutFirstLemmas.{first_after, line_starts_there, spans_put_first}
+use Rattle.ini_edit.proofs.MakerLemmas.{MakesReadPairs, made_put}
+use Rattle.ini_edit.proofs.PutFirstLemmas.{EndAt, end_there, first_after, line_starts_there}
+use Rattle.ini_edit.proofs.PutFirstLemmas.{spans_put_first}
 use Rattle.ini_edit.proofs.QuietLemmas.{as_header}
 use Rattle.ini_edit.proofs.SectionBeginLemmas.{names_after, sections_begin}
 use Rattle.ini_edit.proofs.HeaderLemmas.{EmptyOrHeader, header_closed}
@@ -61,7 +66,7 @@ nothing_after (t ∷ l) h = absurd (false≢true h)
 
 -- what opens a section, before a gap
 record IsOpening (name : Option Text) (last : ℕ) (g : Text) : Type 0 where
-  general : is_none name ≡ true → is_line_end last ≡ true
+  general : is_none name ≡ true → is_line_feed last ≡ true
   named : is_none name ≡ false → (is_line_end last ≡ false) ⊎ BeginsWith is_line_end g
 
 module _ {o : ParseOption} where
@@ -69,7 +74,7 @@ module _ {o : ParseOption} where
       → AreSpans o c (opening name source ∷ []) (g ++ r) → (name ≡ None → c ≡ line_feed)
       → BeginsWithNo is_blank_or_line_end r → IsOpening name (last_or c source) g
   opening_there r name source (AreInPlace.more IsSpan.general AreInPlace.none) first apart = record {
-    general = λ _. ap is_line_end (first refl);
+    general = λ _. ap is_line_feed (first refl);
     named = λ no. absurd (false≢true (sym no));
   }
   opening_there {c} {g} r name source
@@ -168,7 +173,7 @@ module _ (o : ParseOption) {ss : List SectionPiece} {s : Place SectionPiece} {i 
       (in_place-split span_source (sections_spans s.before) (first ∷ []) h).1
       (λ is. ap (λ l. last_or line_feed (joined span_source l)) (general is)) (apart_of header) in
       record {
-        general = λ is. ap is_line_end last_is ∙ there.general is;
+        general = λ is. ap is_line_feed last_is ∙ there.general is;
         named = λ is. elim (there.named is) [
           | inl other ↦ inl (ap is_line_end last_is ∙ other)
           | inr begins ↦ inr begins
@@ -184,10 +189,44 @@ module _ (o : ParseOption) {ss : List SectionPiece} {s : Place SectionPiece} {i 
   put_first_sections q is = gap_put_in o at [] [] (n ∷ []) kept none put are
     where
       n : PairPiece
-      n = make true ((d ∷ ds) ++ q.lines) q.after
+      n = make true (end_at (d ∷ ds) q ++ q.lines) q.after
 
       kept : Text
       kept = q.before ++ cond q.starts [] (d ∷ ds)
+
+      -- a comment at a place before which nothing of the gap stands is in column one
+      mark_front : StandsIn (is_none s.here.name) (is_nil s.after) last s.here.after following
+          → IsFirstPlace o last s.here.after following q → q.before ≡ []
+          → BeginsWith is_comment_mark (q.lines ++ q.after) → is_line_feed last ≡ true
+      mark_front stands first nothing mark = elim (cases_Bool (is_none s.here.name)) [
+        | inl general ↦ stands.general general
+        | inr named ↦ elim (stands.named named) [
+          | inl apart ↦ elim (cases_Bool q.starts) [
+            | inl starts ↦ absurd (both_ways (is_line_end last) apart
+                (ap (λ b. is_line_end (last_or last b)) (sym nothing) ∙ first.starts starts))
+            | inr other ↦
+                absurd (false≢true (sym (subst (BeginsWith is_comment_mark) (first.ends other) mark)))
+          ]
+          | inr begins ↦ absurd (both_ways (is_empty q.before)
+              (first_some o (is_nil s.after) s.here.after q begins
+              (ap (λ b. first_place o b (is_nil s.after) s.here.after) (sym named) ∙ is)) (ap is_empty nothing))
+        ]
+      ]
+
+      -- the new pair with the line end, and what follows it
+      there : {e : Text} → IsFirstPlace o last s.here.after following q
+          → (o.enabled_indented_mutiline_value ≡ true → IsFreePlace o last following q)
+          → EndAt last q following e
+          → IsPair o (last_or last kept) (make true (e ++ q.lines) q.after).stretches
+          (make true (e ++ q.lines) q.after).key (make true (e ++ q.lines) q.after).value
+          ((make true (e ++ q.lines) q.after).after ++ following)
+          × IsGap o (last_or (last_or last kept) (pair_source (make true (e ++ q.lines) q.after).stretches))
+          (make true (e ++ q.lines) q.after).after following
+      there first free (EndAt.stands_so is_end) = (
+        made_put is_end.all makes true following q.lines is_end.is_end refl (line_starts_there end first)
+            (λ on. (free on).lines),
+        first_after end first is_end makes (last_or last kept) free,
+      )
 
       put : AreSpans o line_feed (before ++ (gap s.here.after ∷ later)) []
           → AreSpans o line_feed (before ++ (gap kept ∷ spans_after_pairs s (n ∷ []))) []
@@ -236,14 +275,14 @@ module _ (o : ParseOption) {ss : List SectionPiece} {s : Place SectionPiece} {i 
                     inl (front_alike q.before (q.lines ++ q.after) s.here.after (cond q.starts [] (d ∷ ds))
                     (joined span_source later) new some first.whole)
               ] in
+              let made = there first places.1 (end_there last q following end (mark_front stands first)) in
               spans_put_first o before later s.here.after kept n h
               (record {
                 front = opening_kept (sections_spans s.before) s.here.name s.here.header general alike;
                 kept_gap = first_stays (new_line_of end) (is_none s.here.name)
                     (is_nil s.after) q stands g is (new ++ []);
-                is = made_there end makes true following q.lines refl (line_starts_there end first)
-                    (λ on. (places.1 on).lines);
-                is_gap = first_after end first makes (last_or last kept) places.1;
+                is = made.0;
+                is_gap = made.1;
                 header = header;
               })
 

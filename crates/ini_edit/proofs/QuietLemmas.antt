@@ -1,20 +1,26 @@
 -- Elements by what they give, and those that give nothing by the texts that they stand before and by what
 -- they begin with.
-use Rattle.std.proofs.Common.{◌≡◌, ◌≢◌, ℕ, true, false, not, List, [], ◌∷◌, ◌++◌, append-nil, refl, subst}
-use Rattle.std.proofs.lemmas.Bool.{both_ways, or_left}
+use Rattle.std.proofs.Common.{◌≡◌, ◌≢◌, ℕ, Bool, true, false, not, ◌||◌, ◌==◌, List, [], ◌∷◌, ◌++◌}
+use Rattle.std.proofs.Common.{append-nil, ◌∙◌, refl, subst, sym}
+use Rattle.std.proofs.lemmas.Bool.{and_from, and_parts, both_ways, false≢true, false_from_ne_true}
+use Rattle.std.proofs.lemmas.Bool.{not_from_false, or_left}
+use Rattle.std.proofs.lemmas.List.Folds.{list_all-append}
 use Rattle.std.specs.Char.{is_whitespace}
 use Rattle.std.specs.List.{list_all}
-use Rattle.ini_text.specs.Grammar.CharacterKinds.{BeginsWith, close_bracket, is_blank, is_comment_mark}
-use Rattle.ini_text.specs.Grammar.CharacterKinds.{is_line_end, is_line_feed, is_separator, line_feed}
-use Rattle.ini_text.specs.Grammar.CharacterKinds.{open_bracket}
+use Rattle.ini_text.specs.Grammar.CharacterKinds.{BeginsWith, carriage_return, close_bracket, is_blank}
+use Rattle.ini_text.specs.Grammar.CharacterKinds.{is_comment_mark, is_line_end, is_line_feed, is_separator}
+use Rattle.ini_text.specs.Grammar.CharacterKinds.{line_feed, open_bracket}
 use Rattle.ini_text.specs.Grammar.Elements.{Element, Gap, Given, Header, IsBracketed, Pair}
 use Rattle.ini_text.specs.Grammar.Keys.{Indentation, KeyFront, begins_indented_key}
+use Rattle.ini_text.specs.Grammar.Lines.{Note}
 use Rattle.ini_text.specs.Grammar.Positions.{is_column_one, starts_line}
-use Rattle.ini_text.specs.Grammar.Strings.{Str, bracketed_name_ends, name_ends}
+use Rattle.ini_text.specs.Grammar.Strings.{Closes, Str, bracketed_name_ends, name_ends, plain_ends}
 use Rattle.ini_text.specs.Grammar.Values.{Value}
 use Rattle.ini_text.specs.Grammar.WhiteSpace.{trimmed}
 use Rattle.ini_text.specs.Options.ReadOptions.{backslash_of}
 use Rattle.ini_text.specs.declared.option.ParseOption.{ParseOption}
+use Rattle.ini_text.proofs.GrammarLemmas.KindLemmas.{comment_mark-apart, line_end_no_blank}
+use Rattle.ini_text.proofs.PlainLemmas.PlainTrimLemmas.{line_end_is_white}
 use Rattle.ini.specs.Texts.{Text}
 
 -- an element that gives nothing and stands before any text; and one that ends with the text
@@ -24,17 +30,24 @@ pub data Free (b : Text) : Text → Type 0 where
   comment : {m : ℕ} (s : Text) → is_column_one b ≡ true → is_comment_mark m ≡ true
       → list_all (λ c. not (is_line_feed c)) s ≡ true → Free b (m ∷ (s ++ line_feed ∷ []))
 
-pub data Tail (b : Text) : Text → Type 0 where
+pub data Tail (o : ParseOption) (b : Text) : Text → Type 0 where
   comment : {m : ℕ} {s : Text} → is_column_one b ≡ true → is_comment_mark m ≡ true
-      → list_all (λ c. not (is_line_feed c)) s ≡ true → Tail b (m ∷ s)
-  blanks : {w : Text} → Indentation b w → Tail b w
-  key : {w : Text} (s : Text) → Indentation b w → BeginsWith begins_indented_key s → Tail b (w ++ s)
+      → list_all (λ c. not (is_line_feed c)) s ≡ true → Tail o b (m ∷ s)
+  blanks : {w : Text} → Indentation b w → Tail o b w
+  key : {w : Text} (s : Text) → Indentation b w → BeginsWith (begins_indented_key o) s → Tail o b (w ++ s)
+
+-- what stands before a note in its line: the blanks that begin this, or nothing, behind a CR
+pub data NoteFront (b : Text) : Text → Type 0 where
+  indented : {w : Text} → Indentation b w → NoteFront b w
+  after_cr : starts_line b ≡ true → is_column_one b ≡ false → NoteFront b []
 
 -- an element that gives nothing, by the texts that it stands before
 pub data Quiet (o : ParseOption) (b : Text) : Text → Text → Type 0 where
   anywhere : {s r : Text} → Free b s → Quiet o b s r
   before_header : {w r : Text} → Indentation b w → Quiet o b w (open_bracket ∷ r)
-  at_end : {s : Text} → Tail b s → Quiet o b s []
+  at_end : {s : Text} → Tail o b s → Quiet o b s []
+  at_line_end : {w s r : Text} → o.enabled_indented_comment ≡ true → NoteFront b w → Note s r
+      → Quiet o b (w ++ s) r
 
 -- a header's source before r, and the section's name
 pub data IsHeader (o : ParseOption) : Text → Text → Text → Type 0 where
@@ -53,22 +66,76 @@ pub data Shape (o : ParseOption) (b : Text) : Text → Text → List Given → T
       → is_separator m ≡ true → Value o s r v → Shape o b (k ++ m ∷ s) r (Pair key v ∷ [])
 
 -- a comment's source after the front b, before r, and what it gives
-pub data IsComment (b : Text) : Text → Text → List Given → Type 0 where
+pub data IsComment (o : ParseOption) (b : Text) : Text → Text → List Given → Type 0 where
   whole : {m : ℕ} {r : Text} (s : Text) → is_column_one b ≡ true → is_comment_mark m ≡ true
-      → list_all (λ c. not (is_line_feed c)) s ≡ true → IsComment b (m ∷ (s ++ line_feed ∷ [])) r []
+      → list_all (λ c. not (is_line_feed c)) s ≡ true → IsComment o b (m ∷ (s ++ line_feed ∷ [])) r []
   last : {m : ℕ} {s : Text} → is_column_one b ≡ true → is_comment_mark m ≡ true
-      → list_all (λ c. not (is_line_feed c)) s ≡ true → IsComment b (m ∷ s) [] []
+      → list_all (λ c. not (is_line_feed c)) s ≡ true → IsComment o b (m ∷ s) [] []
+  after_cr : {s r : Text} → o.enabled_indented_comment ≡ true → starts_line b ≡ true
+      → is_column_one b ≡ false → Note s r → IsComment o b s r []
 
 -- what an element that gives nothing begins with
-pub data QuietFront (b : Text) : Text → Text → Type 0 where
-  blanks : {w r : Text} (t : Text) → Indentation b w → QuietFront b (w ++ t) r
+pub data QuietFront (o : ParseOption) (b : Text) : Text → Text → Type 0 where
+  blanks : {w r : Text} (t : Text) → Indentation b w → QuietFront o b (w ++ t) r
   white : {c : ℕ} {r : Text} → is_whitespace c ≡ true → (is_blank c ≡ true → starts_line b ≡ false)
-      → QuietFront b (c ∷ []) r
-  comment : {m : ℕ} {t r : Text} → is_column_one b ≡ true → is_comment_mark m ≡ true
-      → IsComment b (m ∷ t) r [] → QuietFront b (m ∷ t) r
+      → QuietFront o b (c ∷ []) r
+  comment : {m : ℕ} {t r : Text} → starts_line b ≡ true → is_comment_mark m ≡ true
+      → IsComment o b (m ∷ t) r [] → QuietFront o b (m ∷ t) r
 
-only_blanks : {b w r : Text} → Indentation b w → QuietFront b w r
-only_blanks {b} {w} {r} i = subst (λ s. QuietFront b s r) (append-nil w) (QuietFront.blanks [] i)
+-- a note, before each text that closes its line, and before no other
+pub note_before : {s r : Text} (x : Text) → Closes plain_ends x → Note s r → Note s x
+note_before x closes (Note.note mark all was) = Note.note mark all closes
+
+pub note_ahead : {X : Type 0} {s : Text} (r : Text) → Note s r → BeginsWith (λ c. not (is_line_end c)) r → X
+note_ahead r (Note.note mark all closes) begins = at r closes begins
+  where
+    apart : {X : Type 0} (x y : Bool) → (x || (y || false)) ≡ true → not (x || y) ≡ true → X
+    apart true y h n = absurd (false≢true n)
+    apart false true h n = absurd (false≢true n)
+    apart false false h n = absurd (false≢true h)
+
+    at : {X : Type 0} (r : Text) → Closes plain_ends r → BeginsWith (λ c. not (is_line_end c)) r → X
+    at [] closes begins = absurd (false≢true (sym begins))
+    at (c ∷ r) closes begins = apart (is_line_feed c) (c == carriage_return) closes begins
+
+pub note_closes : {s r : Text} → Note s r → Closes plain_ends r
+note_closes (Note.note mark all closes) = closes
+
+pub mark_no_end : (m : ℕ) → is_comment_mark m ≡ true → is_line_end m ≡ false
+mark_no_end m mark =
+    false_from_ne_true (is_line_end m)
+    (λ end. both_ways (is_whitespace m) (comment_mark-apart m mark).1 (line_end_is_white m end))
+
+pub line_end_no_mark : (c : ℕ) → is_line_end c ≡ true → is_comment_mark c ≡ false
+line_end_no_mark c end =
+    false_from_ne_true (is_comment_mark c) (λ mark. both_ways (is_line_end c) (mark_no_end c mark) end)
+
+-- no line ends in it
+pub note_within : {s r : Text} → Note s r → list_all (λ c. not (is_line_end c)) s ≡ true
+note_within (Note.note {m} mark all closes) =
+    and_from (not (is_line_end m)) _ (not_from_false (is_line_end m) (mark_no_end m mark)) all
+
+-- nor in what stands before it in its line
+blanks_within : (w : Text) → list_all is_blank w ≡ true → list_all (λ c. not (is_line_end c)) w ≡ true
+blanks_within [] all = refl
+blanks_within (c ∷ w) all =
+    let parts = and_parts (is_blank c) (list_all is_blank w) all in
+    let other = false_from_ne_true (is_line_end c)
+    (λ end. both_ways (is_blank c) (line_end_no_blank c end) parts.0) in
+    and_from (not (is_line_end c)) _ (not_from_false (is_line_end c) other) (blanks_within w parts.1)
+
+pub note_line_within : {b w s r : Text} → NoteFront b w → Note s r
+    → list_all (λ c. not (is_line_end c)) (w ++ s) ≡ true
+note_line_within {w = w} {s = s} (NoteFront.indented i) remark =
+    list_all-append (λ c. not (is_line_end c)) w s
+    ∙ and_from (list_all (λ c. not (is_line_end c)) w) _ (blanks_within w i.blank) (note_within remark)
+note_line_within (NoteFront.after_cr starts late) remark = note_within remark
+
+only_blanks : {o : ParseOption} {b w r : Text} → Indentation b w → QuietFront o b w r
+only_blanks {o} {b} {w} {r} i = subst (λ s. QuietFront o b s r) (append-nil w) (QuietFront.blanks [] i)
+
+column_starts : (b : Text) → is_column_one b ≡ true → starts_line b ≡ true
+column_starts b one = or_left (is_column_one b) _ one
 
 module _ {o : ParseOption} {b : Text} where
   pub free : {s : Text} (x : Text) → Free b s → Element o b s x []
@@ -76,12 +143,20 @@ module _ {o : ParseOption} {b : Text} where
   free x (Free.white q n) = Element.gap (Gap.white q n)
   free x (Free.comment s one mark all) = Element.comment s one mark all
 
+  pub note_element : {w s r : Text} → o.enabled_indented_comment ≡ true → NoteFront b w → Note s r
+      → Element o b (w ++ s) r []
+  note_element on (NoteFront.indented i) n = Element.indented_comment on i n
+  note_element on (NoteFront.after_cr starts late) n = Element.comment_after_cr on starts late n
+
   pub shape : {s r : Text} {gives : List Given} → Element o b s r gives → Shape o b s r gives
   shape (Element.gap (Gap.blank_line c i end)) = Shape.quiet (Quiet.anywhere (Free.line c i end))
   shape (Element.gap (Gap.before_header i)) = Shape.quiet (Quiet.before_header i)
   shape (Element.gap (Gap.white q n)) = Shape.quiet (Quiet.anywhere (Free.white q n))
   shape (Element.comment s one mark all) = Shape.quiet (Quiet.anywhere (Free.comment s one mark all))
   shape (Element.last_comment one mark all) = Shape.quiet (Quiet.at_end (Tail.comment one mark all))
+  shape (Element.indented_comment on i n) = Shape.quiet (Quiet.at_line_end on (NoteFront.indented i) n)
+  shape (Element.comment_after_cr on starts late n) =
+      Shape.quiet (Quiet.at_line_end on (NoteFront.after_cr starts late) n)
   shape (Element.header off str) = Shape.header (IsHeader.plain off str)
   shape (Element.bracketed_header on str i) = Shape.header (IsHeader.bracketed on str i)
   shape (Element.pair front some sep value) = Shape.pair front some sep value
@@ -100,21 +175,29 @@ module _ {o : ParseOption} {b : Text} where
       at : {s r : Text} → Shape o b s r [] → Quiet o b s r
       at (Shape.quiet q) = q
 
-  pub quiet_front : {s r : Text} → Quiet o b s r → QuietFront b s r
+  note_front : {w s r : Text} → o.enabled_indented_comment ≡ true → NoteFront b w → Note s r
+      → QuietFront o b (w ++ s) r
+  note_front {s = s} on (NoteFront.indented i) n = QuietFront.blanks s i
+  note_front on (NoteFront.after_cr starts late) (Note.note mark all closes) =
+      QuietFront.comment starts mark (IsComment.after_cr on starts late (Note.note mark all closes))
+
+  pub quiet_front : {s r : Text} → Quiet o b s r → QuietFront o b s r
   quiet_front (Quiet.anywhere (Free.line c i end)) = QuietFront.blanks (c ∷ []) i
   quiet_front (Quiet.anywhere (Free.white q n)) = QuietFront.white q n
   quiet_front (Quiet.anywhere (Free.comment s one mark all)) =
-      QuietFront.comment one mark (IsComment.whole s one mark all)
+      QuietFront.comment (column_starts b one) mark (IsComment.whole s one mark all)
   quiet_front (Quiet.before_header i) = only_blanks i
   quiet_front (Quiet.at_end (Tail.comment one mark all)) =
-      QuietFront.comment one mark (IsComment.last one mark all)
+      QuietFront.comment (column_starts b one) mark (IsComment.last one mark all)
   quiet_front (Quiet.at_end (Tail.blanks i)) = only_blanks i
   quiet_front (Quiet.at_end (Tail.key s i begins)) = QuietFront.blanks s i
+  quiet_front (Quiet.at_line_end on front n) = note_front on front n
 
 -- within a line such an element is one white character
-pub white_within : {c : ℕ} {s r : Text} → QuietFront (c ∷ []) s r → is_line_end c ≡ false
+pub white_within : {o : ParseOption} {c : ℕ} {s r : Text} → QuietFront o (c ∷ []) s r → is_line_end c ≡ false
     → (d : ℕ) × (s ≡ d ∷ []) × (is_whitespace d ≡ true)
-white_within {c} (QuietFront.blanks t i) within = absurd (both_ways (is_line_end c) within i.at_line_start)
+white_within {c = c} (QuietFront.blanks t i) within =
+    absurd (both_ways (is_line_end c) within i.at_line_start)
 white_within (QuietFront.white {c = d} q n) within = (d, refl, q)
-white_within {c} (QuietFront.comment one mark is) within =
-    absurd (both_ways (is_line_end c) within (or_left (is_line_feed c) _ one))
+white_within {c = c} (QuietFront.comment starts mark is) within =
+    absurd (both_ways (is_line_end c) within starts)

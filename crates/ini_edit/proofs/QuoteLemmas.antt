@@ -26,7 +26,7 @@ use Rattle.ini_edit.specs.Quotes.{IsQuoteFor, KeepsQuote, StandsInQuotes, has_qu
 use Rattle.ini_edit.proofs.PadLemmas.{drop_white, white_row}
 use Rattle.ini_edit.specs.Writable.{IsWritableValue}
 use Rattle.ini_edit.proofs.WrittenLemmas.{IsReadAsWritten, read_as_written}
-use Rattle.ini_edit.proofs.ValueLemmas.{IsSourceOf, bare_line, bare_source, closes_no_mark}
+use Rattle.ini_edit.proofs.ValueLemmas.{IsSourceOf, bare_line, bare_source, bare_starts, closes_no_mark}
 
 -- there are two marks
 of_mark : (P : ℕ → Type 0) → P 0x22 → P 0x27 → (m : ℕ) → is_quote_mark m ≡ true → P m
@@ -91,6 +91,13 @@ module _ {o : ParseOption} {policy : EscapePolicy} {value : Text}
   source_in IsQuoteFor.empty =
       subst (λ z. IsSourceOf o z value) (sym (append-nil (escaped policy value))) (bare_source writable)
   source_in (IsQuoteFor.mark {m} on mark none) = quoted_source m on mark none
+
+  pub starts_in : {quote : Text} → IsQuoteFor o value quote
+      → BeginsWithNo is_inline_white (written_in policy quote value)
+  starts_in IsQuoteFor.empty =
+      subst (BeginsWithNo is_inline_white) (sym (append-nil (escaped policy value))) (bare_starts writable)
+  starts_in (IsQuoteFor.mark {m} on mark none) =
+      false_from_ne_true (is_inline_white m) (λ white. both_ways (is_quote_mark m) (white_no_mark m white) mark)
 
   -- its lines are the value's own before a line end
   pub lines_in : {quote : Text} → IsQuoteFor o value quote

@@ -8,23 +8,25 @@ use Rattle.std.specs.List.{list_all}
 use Rattle.std.specs.Str.{drop_trailing_whitespace}
 use Rattle.ini_text.specs.declared.option.ParseOption.{ParseOption}
 use Rattle.ini_text.specs.Grammar.CharacterKinds.{BeginsWith, BeginsWithNo, is_blank, is_inline_white}
-use Rattle.ini_text.specs.Grammar.CharacterKinds.{is_line_feed, line_feed}
+use Rattle.ini_text.specs.Grammar.CharacterKinds.{is_comment_mark, is_line_feed, line_feed}
 use Rattle.ini_text.specs.Grammar.Lines.{Line, plain_value}
 use Rattle.ini_text.specs.Grammar.Places.{LastLine, OwnLines, TrailingLines}
 use Rattle.ini_text.specs.Grammar.Strings.{Closes, Str, plain_ends}
-use Rattle.ini_text.specs.Grammar.Values.{LineEnd, MoreLines, Value}
+use Rattle.ini_text.specs.Grammar.Values.{GoesOn, MoreLines, Value}
 use Rattle.ini_text.specs.Grammar.WhiteSpace.{Lead, trimmed, without_outer_line_feeds}
 use Rattle.ini_text.specs.Inside.Reading.{found}
-use Rattle.ini_text.proofs.LawLemmas.OneAheadLemmas.{EndedLine-before, LineEnd-alike}
+use Rattle.ini_text.proofs.LawLemmas.OneAheadLemmas.{CommentLine-before, EndedLine-before}
+use Rattle.ini_text.proofs.LawLemmas.OneAheadLemmas.{GoesOn-before, LineEnd-alike}
 use Rattle.ini_text.proofs.ReaderLemmas.ValueReaderLemmas.{value-reads}
 use Rattle.ini.specs.Texts.{Text}
 use Rattle.ini_edit.specs.Endings.{Ending, ending}
 use Rattle.ini_edit.specs.Inside.Quotes.{IsOwnSource}
 use Rattle.ini_edit.specs.SourceWritten.{IsReadAs}
 use Rattle.ini_edit.proofs.ClosedLemmas.{escape_inside, own_ends}
+use Rattle.ini_edit.proofs.CommentedLineLemmas.{blanks_more, closes_no_comment, end_closes}
 use Rattle.ini_edit.proofs.GluedLemmas.{feeds_after, row-append}
-use Rattle.ini_edit.proofs.PadLemmas.{end_trimmed-white, white_both, white_row}
-use Rattle.ini_edit.proofs.OwnBeforeLemmas.{alike_padded, blanks_more, last_length, no_mark_padded}
+use Rattle.ini_edit.proofs.PadLemmas.{end_trimmed-white, starts_front, white_both, white_row}
+use Rattle.ini_edit.proofs.OwnBeforeLemmas.{alike_padded, last_length, no_mark_padded}
 use Rattle.ini_edit.proofs.ValueLemmas.{closes_no_inline}
 
 abbrev pub IsWhite : Text → Type 0
@@ -61,6 +63,7 @@ record Padded (o : ParseOption) (first : Bool) (w l pad y u : Text) : Type 0 whe
   line : Text
   whole : lead ++ line ≡ w ++ (l ++ pad)
   begins : BeginsWith is_blank w → BeginsWith is_blank lead
+  text : BeginsWithNo is_comment_mark (l ++ y) → BeginsWithNo is_comment_mark (line ++ y)
   is_lead : Lead lead (line ++ y)
   is_line : Line o first line y u
 
@@ -81,6 +84,7 @@ module _ {o : ParseOption} {first : Bool} (w : Text) (white : IsWhite w) where
     line = [];
     whole = append-nil (w ++ pad);
     begins = blanks_more w pad;
+    text = λ n. n;
     is_lead = record { white = white_both w pad white white_pad; ends = closes_no_inline y closes };
     is_line = line_padded [] y refl closes ln;
   }
@@ -89,14 +93,24 @@ module _ {o : ParseOption} {first : Bool} (w : Text) (white : IsWhite w) where
     line = (d ∷ l) ++ pad;
     whole = refl;
     begins = λ b. b;
+    text = λ n. n;
     is_lead = record { white = white; ends = n };
     is_line = line_padded pad y white_pad closes ln;
   }
 
-end_closes : {e x : Text} → LineEnd e x → Closes plain_ends (e ++ x)
-end_closes LineEnd.lf = refl
-end_closes LineEnd.cr_lf = refl
-end_closes (LineEnd.cr n) = refl
+-- with which a value goes on too
+text_before : (l r y : Text) → Closes plain_ends y → BeginsWithNo is_comment_mark (l ++ r)
+    → BeginsWithNo is_comment_mark (l ++ y)
+text_before [] r y closes n = closes_no_comment y closes
+text_before (c ∷ l) r y closes n = n
+
+goes_padded : {o : ParseOption} {w l pad y u : Text} (r : Text) (p : Padded o false w l pad y u)
+    → Closes plain_ends y → GoesOn o w (l ++ r) → GoesOn o p.lead (p.line ++ y)
+goes_padded {l = l} {y = y} r p closes goes = record {
+  begins = p.begins goes.begins;
+  lead = p.is_lead;
+  text = λ on. p.text (text_before l r y closes (goes.text on));
+}
 
 regroup : (w l pad t : Text) → (w ++ (l ++ pad)) ++ t ≡ w ++ (l ++ (pad ++ t))
 regroup w l pad t = simp append_assoc
@@ -115,37 +129,35 @@ record Own (o : ParseOption) (s : Text) : Type 0 where
       → Value o (w ++ (s ++ (pad ++ t))) r (without_outer_line_feeds given)
 
 module _ {o : ParseOption} (on : o.enabled_indented_mutiline_value ≡ true) where
-  module _ {w l x u : Text} {c : ℕ} (begins : BeginsWith is_blank w) (lead : Lead w (l ++ c ∷ x))
-      (ln : Line o false l (c ∷ x) u) where
+  module _ {w l x u : Text} {c : ℕ} (goes : GoesOn o w (l ++ c ∷ x)) (ln : Line o false l (c ∷ x) u) where
     last_goes : (t r pad : Text) → IsWhite pad → TrailingLines o t r
         → (v : Text) × (list_all is_line_feed v ≡ true)
         × MoreLines o ((w ++ l) ++ (pad ++ t)) r ((line_feed ∷ u) ++ v)
     last_goes t r pad white (TrailingLines.line off h) =
         absurd (both_ways o.enabled_indented_mutiline_value off on)
     last_goes t r pad white (TrailingLines.end _) =
-        let p = padded w lead.white l pad [] white refl lead.ends ln in
+        let p = padded w goes.lead.white l pad [] white refl goes.lead.ends ln in
         let whole : p.lead ++ p.line ≡ (w ++ l) ++ (pad ++ []) =
         p.whole ∙ ap (λ z. w ++ (l ++ z)) (sym (append-nil pad)) ∙ sym (append_assoc w l (pad ++ [])) in (
           [],
           refl,
           subst₂ (λ s v. MoreLines o s [] v) whole (ap (λ z. line_feed ∷ z) (sym (append-nil u)))
-              (MoreLines.last (p.begins begins) (subst (Lead p.lead) (append-nil p.line) p.is_lead)
+              (MoreLines.last (subst (GoesOn o p.lead) (append-nil p.line) (goes_padded (c ∷ x) p refl goes))
               p.is_line),
         )
     last_goes t r pad white (TrailingLines.lines {e} {t = lines} {u = v} _ end more all) =
-        let p = padded w lead.white l pad (e ++ (lines ++ r)) white (end_closes end) lead.ends ln in
+        let p = padded w goes.lead.white l pad (e ++ (lines ++ r)) white (end_closes end) goes.lead.ends ln in
         let whole : p.lead ++ (p.line ++ (e ++ lines)) ≡ (w ++ l) ++ (pad ++ (e ++ lines)) =
         sym (append_assoc p.lead p.line (e ++ lines)) ∙ ap (λ z. z ++ (e ++ lines)) p.whole
         ∙ regroup w l pad (e ++ lines) ∙ sym (append_assoc w l (pad ++ (e ++ lines))) in (
           v,
           all,
           subst (λ s. MoreLines o s r (line_feed ∷ (u ++ v))) whole
-              (MoreLines.continued (p.begins begins) p.is_lead p.is_line end more),
+              (MoreLines.continued (goes_padded (c ∷ x) p (end_closes end) goes) p.is_line end more),
         )
 
   later : {s x : Text} {c : ℕ} → LastLine o s (c ∷ x) → Later o s
-  later (LastLine.last {u = u} begins lead ln some) =
-      record { given = line_feed ∷ u; goes = last_goes begins lead ln }
+  later (LastLine.last {u = u} goes ln some) = record { given = line_feed ∷ u; goes = last_goes goes ln }
   later (LastLine.empty_lf m) =
       let more = later m in
       record {
@@ -160,7 +172,7 @@ module _ {o : ParseOption} (on : o.enabled_indented_mutiline_value ≡ true) whe
         goes = λ t r pad white tail. let z = more.goes t r pad white tail in
             (z.0, z.1, MoreLines.empty_cr_lf z.2);
       }
-  later {x = x} {c} (LastLine.continued {w} {l} {e} {t = s} {u = u} begins lead ln end m) =
+  later {x = x} {c} (LastLine.continued {w} {l} {e} {t = s} {u = u} begins ln end m) =
       let more = later m in
       record {
         given = line_feed ∷ (u ++ more.given);
@@ -168,14 +180,31 @@ module _ {o : ParseOption} (on : o.enabled_indented_mutiline_value ≡ true) whe
             let z = more.goes t r pad white tail in
             let alike = alike_padded (pad ++ t) r s (c ∷ x) (last_length m) in
             let n = EndedLine-before (LineEnd-alike alike end)
-            (record { lead = lead; line = ln; end = end }) in
+            (record { lead = begins.lead; line = ln; end = end }) in
             let whole : w ++ (l ++ (e ++ (s ++ (pad ++ t)))) ≡ (w ++ (l ++ (e ++ s))) ++ (pad ++ t) =
             simp append_assoc in (
               z.0,
               z.1,
               subst₂ (λ s v. MoreLines o s r v) whole
                   (ap (λ z. line_feed ∷ z) (sym (append_assoc u more.given z.0)))
-                  (MoreLines.continued begins n.lead n.line n.end z.2),
+                  (MoreLines.continued (GoesOn-before l ((s ++ (pad ++ t)) ++ r) end begins) n.line n.end
+                  z.2),
+            );
+      }
+  later {x = x} {c} (LastLine.comment {s = k} {e} {t = s} noted end m) =
+      let more = later m in
+      record {
+        given = more.given;
+        goes = λ t r pad white tail.
+            let z = more.goes t r pad white tail in
+            let alike = alike_padded (pad ++ t) r s (c ∷ x) (last_length m) in
+            let whole : k ++ (e ++ (s ++ (pad ++ t))) ≡ (k ++ (e ++ s)) ++ (pad ++ t) =
+            simp append_assoc in (
+              z.0,
+              z.1,
+              subst (λ s. MoreLines o s r (more.given ++ z.0)) whole
+                  (MoreLines.comment (CommentLine-before ((s ++ (pad ++ t)) ++ r) end noted)
+                  (LineEnd-alike alike end) z.2),
             );
       }
 
@@ -219,6 +248,21 @@ module _ {o : ParseOption} (on : o.enabled_indented_mutiline_value ≡ true) whe
             ∙ feeds_after (u ++ more.given) z.0 z.1)
             (Value.lines on n.lead n.line n.end z.2);
       }
+
+-- a value with other white space around its own lines, and other lines after these, gives what it gave
+pub value_retailed : {o : ParseOption} {s y value t r u x : Text} {c : ℕ} (w pad v gap : Text)
+    → o.enabled_indented_mutiline_value ≡ true → OwnLines o s (c ∷ y)
+    → BeginsWithNo is_inline_white (s ++ c ∷ y) → IsWhite w → IsWhite pad → TrailingLines o t r
+    → Value o (w ++ (s ++ (pad ++ t))) r value → IsWhite v → IsWhite gap → TrailingLines o u x
+    → Value o (v ++ (s ++ (gap ++ u))) x value
+value_retailed {o} {s} {value = value} {t} {r} {u} {x} w pad v gap on lines starts white white_pad tail
+    gives before after other =
+    let is = own on lines starts in
+    let tried = is.value w t r pad white white_pad tail in
+    let both : found value r ≡ found (without_outer_line_feeds is.given) r =
+    sym ((value-reads o).finds gives) ∙ (value-reads o).finds tried in
+    let same : without_outer_line_feeds is.given ≡ value = cc in
+    subst (Value o (v ++ (s ++ (gap ++ u))) x) same (is.value v u x gap before after other)
 
 -- no white space stands before what doesn't begin with it
 pub no_lead : (w l x : Text) → IsWhite w → BeginsWithNo is_inline_white ((w ++ l) ++ x) → w ≡ []
@@ -286,16 +330,15 @@ module _ {o : ParseOption} {source value : Text} where
   read_starts h =
       subst (λ t. BeginsWithNo is_inline_white (source ++ t)) h.line_end h.placed.space_before.ends
 
+  pub source_starts : IsReadAs o source value → BeginsWithNo is_inline_white source
+  source_starts h = starts_front source feed (read_starts h)
+
   -- where they may be multiline
   many_lines : o.enabled_indented_mutiline_value ≡ true → IsReadAs o source value → (w t r pad : Text)
       → IsWhite w → IsWhite pad → TrailingLines o t r → Value o (w ++ (source ++ (pad ++ t))) r value
   many_lines on h w t r pad white white_pad tail =
-      let x = own on (read_source h) (read_starts h) in
-      let tried = x.value [] h.trailing_lines h.rest [] refl refl h.placed.trailing_lines in
-      let both : found value h.rest ≡ found (without_outer_line_feeds x.given) h.rest =
-      sym ((value-reads o).finds h.placed.gives) ∙ (value-reads o).finds tried in
-      let same : without_outer_line_feeds x.given ≡ value = cc in
-      subst (Value o (w ++ (source ++ (pad ++ t))) r) same (x.value w t r pad white white_pad tail)
+      value_retailed [] [] w pad on (read_source h) (read_starts h) refl refl
+      h.placed.trailing_lines h.placed.gives white white_pad tail
 
   pub value_read : IsReadAs o source value → (w t r pad : Text) → IsWhite w → IsWhite pad
       → TrailingLines o t r → Value o (w ++ (source ++ (pad ++ t))) r value

@@ -117,7 +117,7 @@ rest_follows (c ∷ r) y blank end header = record { no_blank = λ _. blank; no_
 pub rest_for : {o : ParseOption} (e : ℕ) (z : Text) (after : List SectionPiece)
     → (after ≢ [] → joined span_source (sections_spans after) ++ [] ≢ [])
     → IsGap o e z (joined span_source (sections_spans after) ++ [])
-    → Rest o e z (section_rest (is_nil after) e z) (joined span_source (sections_spans after) ++ [])
+    → Rest o e z (section_rest o (is_nil after) e z) (joined span_source (sections_spans after) ++ [])
 rest_for e z [] some g = rest_at_end e z g
 rest_for e z (a ∷ more) some g = rest_of_next e z (some (λ h. cc)) g
 

@@ -63,7 +63,7 @@ module _ (o : ParseOption) (bs : List SectionPiece) (t s : SectionPiece) (after 
   before_last = last_before_gap (last_before_section next) s s.pairs
 
   abbrev pub rest : Text
-  rest = section_rest (is_nil after) before_last (last_gap s)
+  rest = section_rest o (is_nil after) before_last (last_gap s)
 
   abbrev pub line_end : Text
   line_end = line_end_before rest s

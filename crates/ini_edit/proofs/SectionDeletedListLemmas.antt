@@ -270,7 +270,7 @@ module _ (o : ParseOption) {ss : List SectionPiece} {p : Place SectionPiece} (i 
   pub list_put : {t s u : SectionPiece} {front front_there : ℕ} {is_last : Bool} {gap before line : Text}
       (end : NewEnd) → t ≡ get_or ss j t → s ≡ get_or ss i s → front ≡ last_before ss j
       → front_there ≡ last_before ss i → is_last ≡ (i + 1 == length ss)
-      → gap ≡ section_rest is_last (last_before_gap front_there s s.pairs) (last_gap s)
+      → gap ≡ section_rest o is_last (last_before_gap front_there s s.pairs) (last_gap s)
       → before ≡ front_of (last_gap s) gap
       → ((rest : Text) → last_gap s ≡ before ++ rest → line ≡ line_end_before rest s)
       → end_put_last end t ≡ with_rest_of_next o front t line gap
@@ -287,13 +287,13 @@ module _ (o : ParseOption) {ss : List SectionPiece} {p : Place SectionPiece} (i 
       there_is ∙ ap (λ l. last_or line_feed (sections_text l)) (place_take at ∙ before_is) in
       let whole_gap : last_gap s ≡ before ++ gap =
       sym (ap (λ f. f ++ gap) front_gap ∙ ap (λ g. front_of (last_gap s) g ++ g) gap_is
-      ∙ rest_whole is_last (last_before_gap front_there s s.pairs) (last_gap s)) in
+      ∙ rest_whole o is_last (last_before_gap front_there s s.pairs) (last_gap s)) in
       let rest_is : gap ≡ rest o b.bs b.t p.here p.after =
       gap_is
-      ∙ ap (λ n. section_rest n (last_before_gap front_there s s.pairs) (last_gap s))
+      ∙ ap (λ n. section_rest o n (last_before_gap front_there s s.pairs) (last_gap s))
       (last ∙ last_at p.after refl)
-      ∙ ap (λ c. section_rest (is_nil p.after) (last_before_gap c s s.pairs) (last_gap s)) there_text
-      ∙ ap (λ s. section_rest (is_nil p.after)
+      ∙ ap (λ c. section_rest o (is_nil p.after) (last_before_gap c s s.pairs) (last_gap s)) there_text
+      ∙ ap (λ s. section_rest o (is_nil p.after)
       (last_before_gap (last_or line_feed (sections_text (b.bs ++ b.t ∷ []))) s s.pairs) (last_gap s)) here in
       let end_is : line ≡ line_end o b.bs b.t p.here p.after =
       line_is gap whole_gap ∙ ap (λ g. line_end_before g s) rest_is

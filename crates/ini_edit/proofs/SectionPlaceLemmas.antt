@@ -27,7 +27,7 @@ pub record IsCutFor (o : ParseOption) (has_pair : Bool) (b : ℕ) (a g : Text) :
   pub front : List Piece
   pub whole : a ≡ pieces_text front ++ g
   pub nothing : pieces_items front ≡ []
-  pub keyless : AreKeyless front
+  pub keyless : AreKeyless o front
   pub are : ArePieces o b front g
   pub rest : IsGap o (last_or b (pieces_text front)) g []
   pub line : BeginsWith is_blank g → is_line_end (last_or b (pieces_text front)) ≡ true
@@ -65,7 +65,7 @@ nothing_there test h = absurd (false≢true (sym h))
 
 module _ {o : ParseOption} (has_pair : Bool) {b : ℕ} {a : Text} (h : IsGap o b a []) where
   abbrev dropped : Text
-  dropped = dropped_key false b a
+  dropped = dropped_key o b a
 
   -- before the key that the text's end cuts short, or at the end
   at_key : (key : Text) → DroppedOff o b a key → (has_pair ≡ true → o.enabled_indented_mutiline_value ≡ true
@@ -103,12 +103,12 @@ module _ {o : ParseOption} (has_pair : Bool) {b : ℕ} {a : Text} (h : IsGap o b
   -- before the last comment, where the key is taken by a value
   at_solid : (key solid : Text) → DroppedOff o b a key → key ≢ []
       → BeginsWithNo (λ c. c == open_bracket) key
-      → from_last_solid false (front_of a key) ≡ Some solid → IsCutFor o has_pair b a (solid ++ key)
+      → from_last_solid b (front_of a key) ≡ Some solid → IsCutFor o has_pair b a (solid ++ key)
   at_solid key solid off some other is =
       let front : front_of a key ≡ pieces_text off.before =
       front_is (pieces_text off.before) key a (sym off.whole) in
       let cut = solid_cut some other off.before solid off.nothing off.keyless off.are
-      (ap (from_last_solid false) (sym front) ∙ is) in
+      (ap (from_last_solid b) (sym front) ∙ is) in
       let parts = pieces_split cut.front cut.rest (subst (λ ps. ArePieces o b ps key) cut.whole off.are) in
       let nothing = empty_front (pieces_items cut.front) (pieces_items cut.rest)
       (sym (pieces_items-append cut.front cut.rest) ∙ ap pieces_items (sym cut.whole) ∙ off.nothing) in
@@ -150,7 +150,7 @@ module _ {o : ParseOption} (has_pair : Bool) {b : ℕ} {a : Text} (h : IsGap o b
   pub cut_for : (g : Text) → after_new_section o has_pair b a ≡ Some g → IsCutFor o has_pair b a g
   cut_for g is = at (is_empty dropped || not (has_pair && o.enabled_indented_mutiline_value)) refl is
     where
-      off : DroppedOff o b a (dropped_key false b a)
+      off : DroppedOff o b a (dropped_key o b a)
       off = dropped_off h
 
       alone : (key : Text) → (is_empty key || not (has_pair && o.enabled_indented_mutiline_value)) ≡ true
@@ -174,14 +174,14 @@ module _ {o : ParseOption} (has_pair : Bool) {b : ℕ} {a : Text} (h : IsGap o b
 
       at : (e : Bool) → (is_empty dropped || not (has_pair && o.enabled_indented_mutiline_value)) ≡ e
           → cond e (Some dropped)
-          (option_map (λ solid. solid ++ dropped) (from_last_solid false (front_of a dropped))) ≡ Some g
+          (option_map (λ solid. solid ++ dropped) (from_last_solid b (front_of a dropped))) ≡ Some g
           → IsCutFor o has_pair b a g
       at true e is =
           let same : dropped ≡ g = cc in
           subst (IsCutFor o has_pair b a) same (at_key dropped off (alone dropped e))
-      at false e is = solid_at (from_last_solid false (front_of a dropped)) refl is
+      at false e is = solid_at (from_last_solid b (front_of a dropped)) refl is
         where
-          solid_at : (s : Option Text) → from_last_solid false (front_of a dropped) ≡ s
+          solid_at : (s : Option Text) → from_last_solid b (front_of a dropped) ≡ s
               → option_map (λ solid. solid ++ dropped) s ≡ Some g → IsCutFor o has_pair b a g
           solid_at None found is = absurd (let no : None ≡ Some g = is in cc)
           solid_at (Some solid) found is =

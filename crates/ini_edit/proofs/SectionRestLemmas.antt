@@ -21,8 +21,8 @@ use Rattle.ini_edit.specs.SourceLines.{are_comments, comments_at_end, indentatio
 use Rattle.ini_edit.proofs.DroppedKeyLemmas.{dropped_off}
 use Rattle.ini_edit.proofs.EndingLemmas.{no_feed_by}
 use Rattle.ini_edit.proofs.GapPartLemmas.{LineStarts, gap_nothing, gap_parts}
+use Rattle.ini_edit.proofs.QuietLemmas.{line_end_no_mark}
 use Rattle.ini_edit.proofs.SourceLineLemmas.{dropped_key-rest}
-use Rattle.ini_edit.proofs.SourceSetLemmas.{line_end_no_mark}
 
 -- a text up to the blanks at its end that begin a line
 pub record Unindented (b : ℕ) (t : Text) : Type 0 where
@@ -141,14 +141,14 @@ pub record Rest (o : ParseOption) (b : ℕ) (z rest R : Text) : Type 0 where
 
 module _ {o : ParseOption} (b : ℕ) (z : Text) {R : Text} (some : R ≢ []) (g : IsGap o b z R) where
   -- before another header: comments, and what indents the header
-  pub rest_of_next : Rest o b z (section_rest false b z) R
+  pub rest_of_next : Rest o b z (section_rest o false b z) R
   rest_of_next =
       let u = unindented b z in
       let w = indentation_at_end b z in
       let front : front_of z w ≡ u.front = front_is u.front w z (sym u.whole) in
       let v = commented b u.front in
       let s = comments_at_end b u.front in
-      let is : section_rest false b z ≡ s ++ w = ap (λ t. comments_at_end b t ++ w) front in
+      let is : section_rest o false b z ≡ s ++ w = ap (λ t. comments_at_end b t ++ w) front in
       let text : z ≡ v.front ++ (s ++ w) =
       u.whole ∙ ap (λ t. t ++ w) v.whole ∙ append_assoc v.front s w in
       subst (λ t. Rest o b z t R) (sym is) (at s w v.front v.are u.blank text v.line
@@ -200,7 +200,7 @@ module _ {o : ParseOption} (b : ℕ) (z : Text) {R : Text} (some : R ≢ []) (g 
 
 -- at the text's end: an indented key that this cuts short
 module _ {o : ParseOption} (b : ℕ) (z : Text) (g : IsGap o b z []) where
-  pub rest_at_end : Rest o b z (section_rest true b z) []
+  pub rest_at_end : Rest o b z (section_rest o true b z) []
   rest_at_end =
       let off = dropped_off g in
       let front = pieces_text off.before in
@@ -218,8 +218,8 @@ module _ {o : ParseOption} (b : ℕ) (z : Text) (g : IsGap o b z []) where
           whole = off.whole;
           is = off.is;
           line = λ h. there.0;
-          column = λ h. absurd (no_mark_blank (section_rest true b z) there.1 h);
-          no_end = no_end_blank (section_rest true b z) there.1;
+          column = λ h. absurd (no_mark_blank (section_rest o true b z) there.1 h);
+          no_end = no_end_blank (section_rest o true b z) there.1;
         }
       ]
     where
@@ -234,16 +234,16 @@ module _ {o : ParseOption} (b : ℕ) (z : Text) (g : IsGap o b z []) where
           (λ end. both_ways (is_blank c) (line_end_no_blank c end) h)
 
 -- what stays is an end of the gap
-pub rest_whole : (is_last : Bool) (b : ℕ) (z : Text)
-    → front_of z (section_rest is_last b z) ++ section_rest is_last b z ≡ z
-rest_whole true b z = dropped_key-rest false b z
-rest_whole false b z =
+pub rest_whole : (o : ParseOption) (is_last : Bool) (b : ℕ) (z : Text)
+    → front_of z (section_rest o is_last b z) ++ section_rest o is_last b z ≡ z
+rest_whole o true b z = dropped_key-rest o b z
+rest_whole o false b z =
     let u = unindented b z in
     let w = indentation_at_end b z in
     let front : front_of z w ≡ u.front = front_is u.front w z (sym u.whole) in
     let v = commented b u.front in
     let s = comments_at_end b u.front in
-    let is : section_rest false b z ≡ s ++ w = ap (λ t. comments_at_end b t ++ w) front in
+    let is : section_rest o false b z ≡ s ++ w = ap (λ t. comments_at_end b t ++ w) front in
     let text : z ≡ v.front ++ (s ++ w) =
     u.whole ∙ ap (λ t. t ++ w) v.whole ∙ append_assoc v.front s w in
     ap (λ r. front_of z r ++ r) is ∙ ap (λ f. f ++ (s ++ w)) (front_is v.front (s ++ w) z (sym text))

@@ -3,18 +3,15 @@ use Rattle.std.proofs.Common.{◌≡◌, ◌≢◌, ◌∙◌, ℕ, true, List, 
 use Rattle.std.proofs.Common.{append_assoc, append-nil, inl, inr, refl, subst, sym}
 use Rattle.std.specs.List.{list_all}
 use Rattle.std.specs.Prelude.{◌⊎◌, ⊤}
-use Rattle.std.proofs.lemmas.Bool.{both_ways, false≢true}
+use Rattle.std.proofs.lemmas.Bool.{both_ways, false≢true, or_left}
 use Rattle.ini_text.specs.Grammar.CharacterKinds.{BeginsWith, is_blank, is_comment_mark, is_line_end}
 use Rattle.ini_text.specs.Grammar.CharacterKinds.{is_line_feed, line_feed}
-use Rattle.ini_text.specs.Grammar.Elements.{Element}
-use Rattle.ini_text.specs.Grammar.Pieces.{ArePieces}
 use Rattle.ini_text.specs.Grammar.Places.{Stretches, TrailingLines, pair_source, value_source}
 use Rattle.ini_text.specs.Grammar.Positions.{last_or}
 use Rattle.ini_text.specs.Grammar.Values.{MoreLines, Value}
 use Rattle.ini_text.specs.Laws.PieceLaws.{Agree, BeginAlike}
 use Rattle.ini_text.specs.declared.option.ParseOption.{ParseOption}
 use Rattle.ini_text.proofs.LawLemmas.PieceLemmas.{last_or-append}
-use Rattle.ini_text.proofs.PlainLemmas.PlainLineLemmas.{line_end_gap}
 use Rattle.ini.specs.Texts.{Text}
 use Rattle.ini_edit.specs.Inside.InPlace.{AreInPlace}
 use Rattle.ini_edit.specs.Inside.Spans.{AreSpans, IsGap, IsPair, IsSpan, Span, gap, opening, pair}
@@ -23,9 +20,9 @@ use Rattle.ini_edit.specs.Places.{Follows}
 use Rattle.ini_edit.specs.SourceLines.{indentation_at_end}
 use Rattle.ini_edit.specs.Sources.{joined}
 use Rattle.ini_edit.proofs.AheadLemmas.{FollowsFront, header_before, tail_before, value_before}
-use Rattle.ini_edit.proofs.DeletedLinesLemmas.{IsLineEnd}
+use Rattle.ini_edit.proofs.DeletedLinesLemmas.{IsLineEnd, end_gap}
 use Rattle.ini_edit.proofs.EndedLemmas.{line_end-some-after}
-use Rattle.ini_edit.proofs.GapPartLemmas.{LineStarts, gap_any, gap_nothing, gap_parts, some_before}
+use Rattle.ini_edit.proofs.GapPartLemmas.{LineStarts, gap_any, gap_parts, some_before}
 use Rattle.ini_edit.proofs.InPlaceLemmas.{in_place-before, in_place-join, in_place-like, in_place-split}
 use Rattle.ini_edit.proofs.OwnBeforeLemmas.{own_ahead, own_before}
 use Rattle.ini_edit.proofs.HeaderLemmas.{EmptyOrHeader}
@@ -36,14 +33,16 @@ use Rattle.ini_edit.proofs.SpanLemmas.{spans_local}
 use Rattle.ini_edit.proofs.TrailingLemmas.{trailing_lengthened, value_lengthened}
 
 -- a header or nothing is read alike after all fronts
-pub header_alike : {b c x : Text} → EmptyOrHeader x → Agree b c x
+pub header_alike : {o : ParseOption} {b c x : Text} → EmptyOrHeader x → Agree o b c x
 header_alike EmptyOrHeader.empty = record {
   line = λ h. absurd (false≢true (sym h));
   column = λ h. absurd (false≢true (sym h));
+  comment = λ on h. absurd (false≢true (sym h));
 }
 header_alike (EmptyOrHeader.header r) = record {
   line = λ h. absurd (false≢true h);
   column = λ h. absurd (false≢true h);
+  comment = λ on h. absurd (false≢true h);
 }
 
 -- a text that stands before what begins no line may stand before this one
@@ -65,6 +64,7 @@ module _ {o : ParseOption} where
     separates = h.separates;
     gives = value_before follows f h.gives;
     white_before = h.white_before;
+    starts = h.starts;
     white_after = h.white_after;
     are_trailing = tail_before follows f h.are_trailing;
     own_lines = own_ahead _ f h.are_trailing h.own_lines;
@@ -105,21 +105,6 @@ module _ {o : ParseOption} where
 pub record AreLike (rest : Text) (new : ℕ) : Type 0 where
   pub line : BeginsWith is_blank rest → is_line_end new ≡ true
   pub column : BeginsWith is_comment_mark rest → is_line_feed new ≡ true
-
-module _ {o : ParseOption} where
-  one_end : {c : ℕ} {r : Text} (d : ℕ) → is_line_end d ≡ true → IsGap o c (d ∷ []) r
-  one_end d end = record {
-    pieces = record { source = d ∷ []; gives = [] } ∷ [];
-    whole = refl;
-    nothing = refl;
-    are = ArePieces.more (Element.gap (line_end_gap d end)) ArePieces.none;
-  }
-
-  pub line_end_is_gap : {c : ℕ} {l r : Text} → IsLineEnd l → IsGap o c l r
-  line_end_is_gap IsLineEnd.none = gap_nothing
-  line_end_is_gap IsLineEnd.lf = one_end line_feed refl
-  line_end_is_gap IsLineEnd.cr = one_end 0x0D refl
-  line_end_is_gap IsLineEnd.cr_lf = gap_join (one_end 0x0D refl) (one_end line_feed refl)
 
 -- Spans up to a span s and a gap, of which blanks w at the end indent what follows; the spans of a section,
 -- and a gap; and those after that.
@@ -173,10 +158,10 @@ kept_of u = record { bare = u.bare; blank = u.blank; line = u.line }
 
 module _ {o : ParseOption} where
   -- before any other text
-  pub kept_any : {b : ℕ} {k w R : Text} (x : Text) → IsKept b k w → R ≢ [] → IsGap o b (k ++ w) R
-      → IsGap o b k x
-  kept_any {b} {k} {w} {R} x kept some g =
-      gap_any x (some_before w R some) kept.bare (at kept.line)
+  pub kept_any : {b : ℕ} {k w R : Text} (x : Text) → IsKept b k w → R ≢ [] → FollowsFront [] (w ++ R)
+      → IsGap o b (k ++ w) R → IsGap o b k x
+  kept_any {b} {k} {w} {R} x kept some front g =
+      gap_any x front.some kept.bare (at kept.line)
     where
       at : (w ≡ []) ⊎ (is_line_end (last_or b k) ≡ true) → IsGap o b k (w ++ R)
       at (inl empty) =
@@ -191,6 +176,7 @@ module _ {o : ParseOption} where
   rest_moved r like = gap_like (record {
     line = λ h. r.line h ∙ sym (like.line h);
     column = λ h. r.column h ∙ sym (like.column h);
+    comment = λ on h. or_left _ _ (r.column h) ∙ sym (or_left _ _ (like.column h));
   }) r.is
 
   -- a gap of which a front is kept, a line end, and what stays of the last gap
@@ -212,8 +198,8 @@ module _ {o : ParseOption} where
       let text : (new ++ joined span_source zs) ++ [] ≡ k ++ ((l ++ rest) ++ Z) =
       append_assoc new (joined span_source zs) [] ∙ append_assoc k (l ++ rest) Z in
       let is : IsGap o b new Z =
-      gap_join (kept_any ((l ++ rest) ++ Z) kept some parts.kept)
-      (gap_join (line_end_is_gap end) (rest_moved stays like)) in
+      gap_join (kept_any ((l ++ rest) ++ Z) kept some front parts.kept)
+      (gap_join (end_gap end) (rest_moved stays like)) in
       in_place-join span_source (xs ++ s ∷ []) (gap new ∷ zs)
       (subst (AreSpans o line_feed (xs ++ s ∷ [])) (sym text)
       (spans_before_kept xs s k w R ((l ++ rest) ++ Z) first front may parts.before))
@@ -296,6 +282,7 @@ module _ {o : ParseOption} (on : o.enabled_indented_mutiline_value ≡ true) whe
     gives = subst (λ s. Value o s x value) (longer_value p l)
         (value_lengthened on (feed_lines feed follows) refl some h.gives);
     white_before = h.white_before;
+    starts = h.starts;
     white_after = h.white_after;
     are_trailing = trailing_lengthened on (feed_lines feed follows) refl some h.are_trailing;
     own_lines = own_before (longer_begins p.trailing_lines _ l x (trailing_some some h.are_trailing))

@@ -1,68 +1,104 @@
 -- The last comment of elements that give nothing, or the last white space that is neither blank nor a line
 -- end: they are cut there.
-use Rattle.std.proofs.Common.{◌≡◌, ◌≢◌, ◌∙◌, ◌≤◌, ◌==◌, ◌||◌, arith, inl, inr, length, ℕ, Bool, true}
+use Rattle.std.proofs.Common.{◌≡◌, ◌≢◌, ◌∙◌, ◌≤◌, ◌==◌, ◌&&◌, arith, inl, inr, length, ℕ, true}
 use Rattle.std.proofs.Common.{false, not, List, [], ◌∷◌}
 use Rattle.std.proofs.Common.{◌++◌, None, Option, Some, ap, append_assoc, refl, subst, sym}
-use Rattle.std.proofs.lemmas.Bool.{and_from, and_parts, both_ways, cases_Bool, cond-false, cond-true}
-use Rattle.std.proofs.lemmas.Bool.{false≢true, false_from_ne_true, or_left, or_parts, or_right}
+use Rattle.std.specs.Prelude.{◌⊎◌}
+use Rattle.std.proofs.lemmas.Bool.{and_from, and_left, and_parts, and_right, both_ways, cases_Bool}
+use Rattle.std.proofs.lemmas.Bool.{cond-false, cond-true, false≢true, or_from, or_left, or_parts, or_right}
 use Rattle.std.specs.List.{list_all}
 use Rattle.std.specs.Option.{option_or}
 use Rattle.ini_text.specs.Grammar.CharacterKinds.{BeginsWith, BeginsWithNo, is_blank, is_comment_mark}
 use Rattle.ini_text.specs.Grammar.CharacterKinds.{is_line_end, is_line_feed, line_feed, open_bracket}
+use Rattle.ini_text.specs.Grammar.Lines.{Note}
 use Rattle.ini_text.specs.Grammar.Pieces.{ArePieces, Piece, pieces_items, pieces_text}
 use Rattle.ini_text.specs.Grammar.Positions.{last_or}
+use Rattle.ini_text.specs.Grammar.Strings.{Closes, plain_ends}
 use Rattle.ini_text.specs.declared.option.ParseOption.{ParseOption}
 use Rattle.ini_text.proofs.GrammarLemmas.ItemLemmas.{element-some}
 use Rattle.ini_text.proofs.GrammarLemmas.KindLemmas.{comment_mark-apart}
 use Rattle.ini_text.proofs.LawLemmas.PieceLemmas.{last_or-append}
 use Rattle.ini.specs.Texts.{Text}
 use Rattle.ini_edit.specs.SourceLines.{is_blank_or_line_end}
-use Rattle.ini_edit.specs.SourceLines.{from_last_solid, is_in_comment}
-use Rattle.ini_edit.proofs.DroppedKeyLemmas.{AreKeyless, blank_no_mark, no_comment_in, white_no_mark}
-use Rattle.ini_edit.proofs.DroppedKeyLemmas.{pieces_no_bracket}
-use Rattle.ini_edit.proofs.EndingLemmas.{no_feed_by}
+use Rattle.ini_edit.specs.SourceLines.{CommentState, begins_solid, from_last_solid, is_outside}
+use Rattle.ini_edit.specs.SourceLines.{last_solid_from, next_comment}
+use Rattle.ini_edit.proofs.DroppedKeyLemmas.{AreKeyless, blank_no_mark, blanks_no_feed_last}
+use Rattle.ini_edit.proofs.DroppedKeyLemmas.{closes_front, comment_begins, comment_goes_on, note_begins}
+use Rattle.ini_edit.proofs.DroppedKeyLemmas.{note_ends, note_goes_on, pieces_no_bracket, stays_outside}
+use Rattle.ini_edit.proofs.DroppedKeyLemmas.{white_no_mark}
 use Rattle.ini_edit.proofs.GapLemmas.{empty_front}
 use Rattle.ini_edit.proofs.GapPartLemmas.{some_before}
-use Rattle.ini_edit.proofs.QuietLemmas.{Free, Quiet, as_quiet}
-use Rattle.ini_edit.proofs.SourceSetLemmas.{line_end_no_mark}
-
-mark_no_end : (m : ℕ) → is_comment_mark m ≡ true → is_line_end m ≡ false
-mark_no_end m mark =
-    false_from_ne_true (is_line_end m) (λ end. both_ways (is_comment_mark m) (line_end_no_mark m end) mark)
-
-neither : (a b : Bool) → a ≡ false → b ≡ false → (a || b) ≡ false
-neither true b h g = absurd (false≢true (sym h))
-neither false b h g = g
+use Rattle.ini_edit.proofs.QuietLemmas.{Free, NoteFront, Quiet, as_quiet, line_end_no_mark}
+use Rattle.ini_edit.proofs.QuietLemmas.{mark_no_end, note_closes}
 
 or_none : (x : Option Text) → option_or x None ≡ x
 or_none None = refl
 or_none (Some t) = refl
 
--- past blanks and line ends
-one_past : (c : ℕ) (t : Text) → is_blank_or_line_end c ≡ true → is_comment_mark c ≡ false
-    → from_last_solid false (c ∷ t) ≡ from_last_solid false t
-one_past c t blank apart =
-    ap (option_or (from_last_solid (is_in_comment false c) t)) (cond-true (is_blank_or_line_end c) _ _ blank)
-    ∙ or_none (from_last_solid (is_in_comment false c) t)
-    ∙ ap (λ inside. from_last_solid inside t) (no_comment_in c apart)
+abbrev from : CommentState → (before : ℕ) → Text → Option Text
+from = last_solid_from
 
-blanks_past : (w t : Text) → list_all is_blank w ≡ true
-    → from_last_solid false (w ++ t) ≡ from_last_solid false t
-blanks_past [] t all = refl
-blanks_past (c ∷ w) t all =
+-- past a character with which nothing solid begins
+one_past : (state : CommentState) (before c : ℕ) (t : Text)
+    → (is_outside state && begins_solid before c) ≡ false
+    → from state before (c ∷ t) ≡ from (next_comment state before c) c t
+one_past state before c t apart =
+    ap (option_or (from (next_comment state before c) c t)) (cond-false _ _ _ apart)
+    ∙ or_none (from (next_comment state before c) c t)
+
+-- past blanks and line ends
+blank_past : (before c : ℕ) (t : Text) → is_blank_or_line_end c ≡ true → is_comment_mark c ≡ false
+    → from_last_solid before (c ∷ t) ≡ from_last_solid c t
+blank_past before c t blank unmarked =
+    one_past CommentState.outside before c t (ap not (or_left (is_blank_or_line_end c) _ blank))
+    ∙ ap (λ state. from state c t) (stays_outside before c unmarked)
+
+blanks_past : (before : ℕ) (w t : Text) → list_all is_blank w ≡ true
+    → from_last_solid before (w ++ t) ≡ from_last_solid (last_or before w) t
+blanks_past before [] t all = refl
+blanks_past before (c ∷ w) t all =
     let parts = and_parts (is_blank c) (list_all is_blank w) all in
-    one_past c (w ++ t) (or_left (is_blank c) (is_line_end c) parts.0) (blank_no_mark c parts.0)
-    ∙ blanks_past w t parts.1
+    blank_past before c (w ++ t) (or_left (is_blank c) (is_line_end c) parts.0) (blank_no_mark c parts.0)
+    ∙ blanks_past c w t parts.1
 
 -- in a comment
-comment_past : (s t : Text) → list_all (λ c. not (is_line_feed c)) s ≡ true
-    → from_last_solid true (s ++ line_feed ∷ t) ≡ from_last_solid false t
-comment_past [] t all = or_none (from_last_solid false t)
-comment_past (c ∷ s) t all =
+comment_past : (before : ℕ) (s t : Text) → list_all (λ c. not (is_line_feed c)) s ≡ true
+    → from CommentState.comment before (s ++ line_feed ∷ t) ≡ from_last_solid line_feed t
+comment_past before [] t all = or_none (from_last_solid line_feed t)
+comment_past before (c ∷ s) t all =
     let parts = and_parts (not (is_line_feed c)) (list_all (λ c. not (is_line_feed c)) s) all in
-    or_none (from_last_solid (is_in_comment true c) (s ++ line_feed ∷ t))
-    ∙ ap (λ inside. from_last_solid inside (s ++ line_feed ∷ t)) parts.0
-    ∙ comment_past s t parts.1
+    one_past CommentState.comment before c (s ++ line_feed ∷ t) refl
+    ∙ ap (λ state. from state c (s ++ line_feed ∷ t)) (comment_goes_on before c parts.0)
+    ∙ comment_past c s t parts.1
+
+-- in a note
+note_end : (before : ℕ) (t : Text) → (t ≡ []) ⊎ BeginsWith is_line_end t
+    → from CommentState.note before t ≡ from_last_solid before t
+note_end before [] ends = refl
+note_end before (c ∷ t) (inl none) = absurd (let no : c ∷ t ≡ [] = none in cc)
+note_end before (c ∷ t) (inr end) =
+    one_past CommentState.note before c t refl
+    ∙ ap (λ state. from state c t) (note_ends before c end)
+    ∙ sym (blank_past before c t (or_right (is_blank c) (is_line_end c) end) (line_end_no_mark c end))
+
+note_rest : (before : ℕ) (s t : Text) → list_all (λ c. not (is_line_end c)) s ≡ true
+    → from CommentState.note before (s ++ t) ≡ from CommentState.note (last_or before s) t
+note_rest before [] t all = refl
+note_rest before (c ∷ s) t all =
+    let parts = and_parts (not (is_line_end c)) (list_all (λ c. not (is_line_end c)) s) all in
+    one_past CommentState.note before c (s ++ t) refl
+    ∙ ap (λ state. from state c (s ++ t)) (note_goes_on before c parts.0)
+    ∙ note_rest c s t parts.1
+
+note_past : (before : ℕ) {s r : Text} (t : Text) → is_line_feed before ≡ false → Note s r
+    → (t ≡ []) ⊎ BeginsWith is_line_end t
+    → from_last_solid before (s ++ t) ≡ from_last_solid (last_or before s) t
+note_past before t late (Note.note {m} {s} mark all closes) ends =
+    let marked : (is_comment_mark m && not (is_line_feed before)) ≡ true =
+    and_from (is_comment_mark m) _ mark (ap not late) in
+    one_past CommentState.outside before m (s ++ t) (ap not (or_right (is_blank_or_line_end m) _ marked))
+    ∙ ap (λ state. from state m (s ++ t)) (note_begins before m late mark)
+    ∙ note_rest m s t all ∙ note_end (last_or m s) t ends
 
 -- what begins solid
 pub record IsSolid (c : ℕ) (s : Text) : Type 0 where
@@ -72,49 +108,65 @@ pub record IsSolid (c : ℕ) (s : Text) : Type 0 where
 
 -- an element before t: the last solid is not its own, or it is, if none follows
 data Passes (c : ℕ) (s t : Text) : Type 0 where
-  past : from_last_solid false (s ++ t) ≡ from_last_solid false t → Passes c s t
-  solid : from_last_solid false (s ++ t) ≡ option_or (from_last_solid false t) (Some (s ++ t))
+  past : from_last_solid c (s ++ t) ≡ from_last_solid (last_or c s) t → Passes c s t
+  solid : from_last_solid c (s ++ t) ≡ option_or (from_last_solid (last_or c s) t) (Some (s ++ t))
       → IsSolid c (s ++ t) → Passes c s t
 
+note_passes : {c : ℕ} {w s r : Text} (t : Text) → NoteFront (c ∷ []) w → Note s r
+    → (t ≡ []) ⊎ BeginsWith is_line_end t → Passes c (w ++ s) t
+note_passes {c} t (NoteFront.after_cr starts late) remark ends = Passes.past (note_past c t late remark ends)
+note_passes {c} {w} {s} t (NoteFront.indented i) remark ends =
+    Passes.past (ap (from_last_solid c) (append_assoc w s t) ∙ blanks_past c w (s ++ t) i.blank
+    ∙ note_past (last_or c w) t (blanks_no_feed_last c w i.some i.blank) remark ends
+    ∙ ap (λ d. from_last_solid d t) (sym (last_or-append c w s)))
+
 module _ {o : ParseOption} where
-  passes : {c : ℕ} {s r : Text} (t : Text) → Quiet o (c ∷ []) s r → r ≢ []
+  passes : {c : ℕ} {s r : Text} (t y : Text) → r ≡ t ++ y → Quiet o (c ∷ []) s r → r ≢ []
       → BeginsWithNo (λ c. c == open_bracket) r → Passes c s t
-  passes t (Quiet.anywhere (Free.line {w = w} d i q)) some other =
-      Passes.past (ap (from_last_solid false) (append_assoc w (d ∷ []) t) ∙ blanks_past w (d ∷ t) i.blank
-      ∙ one_past d t (or_right (is_blank d) (is_line_end d) q) (line_end_no_mark d q))
-  passes t (Quiet.before_header i) some other = absurd (false≢true (sym other))
-  passes {c} t (Quiet.anywhere (Free.white {c = d} q n)) some other =
+  passes {c} t y is (Quiet.anywhere (Free.line {w = w} d i q)) some other =
+      Passes.past (ap (from_last_solid c) (append_assoc w (d ∷ []) t) ∙ blanks_past c w (d ∷ t) i.blank
+      ∙ blank_past (last_or c w) d t (or_right (is_blank d) (is_line_end d) q) (line_end_no_mark d q)
+      ∙ ap (λ e. from_last_solid e t) (sym (last_or-append c w (d ∷ []))))
+  passes t y is (Quiet.before_header i) some other = absurd (false≢true (sym other))
+  passes {c} t y is (Quiet.anywhere (Free.white {c = d} q n)) some other =
       elim (cases_Bool (is_blank_or_line_end d)) [
-        | inl blank ↦ Passes.past (one_past d t blank (white_no_mark d q))
+        | inl blank ↦ Passes.past (blank_past c d t blank (white_no_mark d q))
         | inr apart ↦
             let kinds = or_parts (is_blank d) (is_line_end d) apart in
+            let unmarked = white_no_mark d q in
+            let begins : begins_solid c d ≡ true =
+            ap not (or_from (is_blank_or_line_end d) _ apart (and_left (is_comment_mark d) _ unmarked)) in
             Passes.solid
-            (ap (option_or (from_last_solid (is_in_comment false d) t))
-            (cond-false (is_blank_or_line_end d) _ _ apart)
-            ∙ ap (λ inside. option_or (from_last_solid inside t) (Some (d ∷ t)))
-            (no_comment_in d (white_no_mark d q)))
+            (ap (option_or (from (next_comment CommentState.outside c d) d t))
+            (cond-true (begins_solid c d) _ _ begins)
+            ∙ ap (λ state. option_or (from state d t) (Some (d ∷ t))) (stays_outside c d unmarked))
             (record {
               no_blank = kinds.0;
               no_end = kinds.1;
-              column = λ mark. absurd (both_ways (is_comment_mark d) (white_no_mark d q) mark);
+              column = λ mark. absurd (both_ways (is_comment_mark d) unmarked mark);
             })
       ]
-  passes {c} t (Quiet.anywhere (Free.comment {m = m} s one mark all)) some other =
-      let no_feed = no_feed_by is_comment_mark m refl mark in
+  passes {c} t y is (Quiet.anywhere (Free.comment {m = m} s one mark all)) some other =
       let apart = comment_mark-apart m mark in
       let line = mark_no_end m mark in
+      let begins : begins_solid c m ≡ true =
+      ap not (or_from (is_blank_or_line_end m) _ (or_from (is_blank m) (is_line_end m) apart.0 line)
+      (and_right (is_comment_mark m) _ (ap not one))) in
       Passes.solid
-      (ap (λ z. from_last_solid false (m ∷ z)) (append_assoc s (line_feed ∷ []) t)
-      ∙ ap (option_or (from_last_solid (is_in_comment false m) (s ++ line_feed ∷ t)))
-      (cond-false (is_blank_or_line_end m) _ _ (neither (is_blank m) (is_line_end m) apart.0 line))
-      ∙ ap (λ inside. option_or (from_last_solid inside (s ++ line_feed ∷ t))
-      (Some (m ∷ (s ++ line_feed ∷ t))))
-      (and_from (is_comment_mark m) (not (is_line_feed m)) mark (ap not no_feed))
-      ∙ ap (λ x. option_or x (Some (m ∷ (s ++ line_feed ∷ t)))) (comment_past s t all)
-      ∙ ap (λ z. option_or (from_last_solid false t) (Some (m ∷ z)))
-      (sym (append_assoc s (line_feed ∷ []) t)))
+      (ap (λ z. from_last_solid c (m ∷ z)) (append_assoc s (line_feed ∷ []) t)
+      ∙ ap (option_or (from (next_comment CommentState.outside c m) m (s ++ line_feed ∷ t)))
+      (cond-true (begins_solid c m) _ _ begins)
+      ∙ ap (λ state. option_or (from state m (s ++ line_feed ∷ t)) (Some (m ∷ (s ++ line_feed ∷ t))))
+      (comment_begins c m one mark)
+      ∙ ap (λ x. option_or x (Some (m ∷ (s ++ line_feed ∷ t)))) (comment_past m s t all)
+      ∙ ap (λ z. option_or (from_last_solid line_feed t) (Some (m ∷ z)))
+      (sym (append_assoc s (line_feed ∷ []) t))
+      ∙ ap (λ d. option_or (from_last_solid d t) (Some ((m ∷ (s ++ line_feed ∷ [])) ++ t)))
+      (sym (last_or-append m s (line_feed ∷ []))))
       (record { no_blank = apart.0; no_end = line; column = λ _. one })
-  passes t (Quiet.at_end tail) some other = absurd (some refl)
+  passes t y is (Quiet.at_end tail) some other = absurd (some refl)
+  passes t y is (Quiet.at_line_end on front remark) some other =
+      note_passes t front remark (closes_front t y (subst (Closes plain_ends) is (note_closes remark)))
 
 source_some : (s : Text) → 1 ≤ length s → (t : Text) → s ++ t ≡ [] → ⊥
 source_some [] h t is = omega arith
@@ -127,16 +179,16 @@ pub record SolidCut (o : ParseOption) (c : ℕ) (ps : List Piece) (g : Text) : T
   pub whole : ps ≡ front ++ rest
   pub text : g ≡ pieces_text rest
   pub some : g ≢ []
-  pub keyless : AreKeyless front
+  pub keyless : AreKeyless o front
   pub solid : IsSolid (last_or c (pieces_text front)) g
 
 module _ {o : ParseOption} {y : Text} (some : y ≢ []) (other : BeginsWithNo (λ c. c == open_bracket) y) where
-  pub solid_cut : {c : ℕ} (ps : List Piece) (g : Text) → pieces_items ps ≡ [] → AreKeyless ps
-      → ArePieces o c ps y → from_last_solid false (pieces_text ps) ≡ Some g → SolidCut o c ps g
+  pub solid_cut : {c : ℕ} (ps : List Piece) (g : Text) → pieces_items ps ≡ [] → AreKeyless o ps
+      → ArePieces o c ps y → from_last_solid c (pieces_text ps) ≡ Some g → SolidCut o c ps g
   solid_cut [] g empty keyless are is = absurd (let no : None ≡ Some g = is in cc)
   solid_cut {c} (p ∷ ps) g empty keyless (ArePieces.more e rest) is =
       let parts = empty_front p.gives (pieces_items ps) empty in
-      at (passes (pieces_text ps) (as_quiet e parts.0) (some_before (pieces_text ps) y some)
+      at (passes (pieces_text ps) y refl (as_quiet e parts.0) (some_before (pieces_text ps) y some)
       (other_before (pieces_text ps) (pieces_no_bracket ps parts.1 rest)))
       (λ is. solid_cut {c = last_or c p.source} ps g parts.1 keyless.1 rest is)
     where
@@ -157,12 +209,14 @@ module _ {o : ParseOption} {y : Text} (some : y ≢ []) (other : BeginsWithNo (�
       }
 
       at : Passes c p.source (pieces_text ps)
-          → (from_last_solid false (pieces_text ps) ≡ Some g → SolidCut o (last_or c p.source) ps g)
+          → (from_last_solid (last_or c p.source) (pieces_text ps) ≡ Some g
+          → SolidCut o (last_or c p.source) ps g)
           → SolidCut o c (p ∷ ps) g
       at (Passes.past same) more = later (more (sym same ∙ is))
-      at (Passes.solid same begins) more = either (from_last_solid false (pieces_text ps)) refl
+      at (Passes.solid same begins) more = either (from_last_solid (last_or c p.source) (pieces_text ps)) refl
         where
-          either : (r : Option Text) → from_last_solid false (pieces_text ps) ≡ r → SolidCut o c (p ∷ ps) g
+          either : (r : Option Text) → from_last_solid (last_or c p.source) (pieces_text ps) ≡ r
+              → SolidCut o c (p ∷ ps) g
           either None none =
               let here : Some (p.source ++ pieces_text ps) ≡ Some g =
               sym (same ∙ ap (λ r. option_or r (Some (p.source ++ pieces_text ps))) none) ∙ is in

@@ -1,27 +1,30 @@
 -- A pair put into a text in pieces where values are in one line: two spans more, after a line end.
 use Rattle.std.proofs.Common.{◌≡◌, ◌∙◌, ℕ, true, false, List, [], ◌∷◌, ◌++◌, ap, append_assoc, append-nil}
 use Rattle.std.proofs.Common.{refl, subst, sym}
-use Rattle.std.proofs.lemmas.Bool.{and_parts, both_ways}
+use Rattle.std.proofs.Common.{inl, inr}
+use Rattle.std.proofs.lemmas.Bool.{and_parts, both_ways, cases_Bool}
 use Rattle.std.specs.List.{list_all}
-use Rattle.ini_text.specs.Grammar.CharacterKinds.{is_blank, is_line_end, is_line_feed, line_feed}
+use Rattle.ini_text.specs.Grammar.CharacterKinds.{BeginsWith, carriage_return, is_blank, is_comment_mark}
+use Rattle.ini_text.specs.Grammar.CharacterKinds.{is_line_end, is_line_feed, line_feed}
 use Rattle.ini_text.specs.Grammar.Elements.{Element, Gap}
 use Rattle.ini_text.specs.Grammar.Pieces.{ArePieces}
 use Rattle.ini_text.specs.Grammar.Places.{Stretches, TrailingLines, pair_source, value_source}
-use Rattle.ini_text.specs.Grammar.Positions.{last_or, starts_line}
+use Rattle.ini_text.specs.Grammar.Positions.{is_column_one, last_or, starts_line}
 use Rattle.ini_text.specs.Grammar.Strings.{Closes, plain_ends}
 use Rattle.ini_text.specs.Grammar.Values.{LineEnd}
 use Rattle.ini_text.specs.Laws.PieceLaws.{BeginAlike}
 use Rattle.ini_text.specs.declared.option.ParseOption.{ParseOption}
 use Rattle.ini_text.proofs.GrammarLemmas.KindLemmas.{line_end_no_blank}
 use Rattle.ini_text.proofs.LawLemmas.PieceLemmas.{last_or-append}
-use Rattle.ini_text.proofs.PlainLemmas.PlainPairLemmas.{line_end_closes, line_starts}
+use Rattle.ini_text.proofs.PlainLemmas.PlainPairLemmas.{line_end_closes}
 use Rattle.ini_text.proofs.PlainLemmas.PlainTrimLemmas.{line_end_is_white}
 use Rattle.ini.specs.Texts.{Text}
 use Rattle.ini_edit.specs.Inside.InPlace.{AreInPlace}
 use Rattle.ini_edit.specs.Inside.Spans.{AreSpans, IsGap, IsPair, IsSpan, Span, gap, pair, span_source}
 use Rattle.ini_edit.specs.Sources.{PairPiece, joined}
 use Rattle.ini_edit.proofs.AheadLemmas.{value_closes}
-use Rattle.ini_edit.proofs.GapLemmas.{gap_cut, gaps_joined, spans_column}
+use Rattle.ini_edit.proofs.GapLemmas.{CommentPlace, gap_cut, gaps_joined, spans_place}
+use Rattle.ini_edit.proofs.GapPartLemmas.{all_last}
 use Rattle.ini_edit.proofs.InPlaceLemmas.{in_place-before, in_place-exchanged, in_place-join, in_place-put}
 use Rattle.ini_edit.proofs.InPlaceLemmas.{in_place-split, joined-append}
 use Rattle.ini_edit.proofs.ClosedPairLemmas.{closed_stretches, pair_closed}
@@ -33,6 +36,33 @@ pub record IsNewEnd (d : ℕ) (ds : Text) : Type 0 where
   pub all : list_all is_line_end (d ∷ ds) ≡ true
   pub feed : is_line_feed (last_or d ds) ≡ true
   pub is_end : (r : Text) → LineEnd (d ∷ ds) r
+
+pub feed_end : IsNewEnd line_feed []
+feed_end = record { all = refl; feed = refl; is_end = λ r. LineEnd.lf }
+
+pub return_end : IsNewEnd carriage_return (line_feed ∷ [])
+return_end = record { all = refl; feed = refl; is_end = λ r. LineEnd.cr_lf }
+
+-- A line end of a new line after one that ends with e: as this ends, or with LF where no comment can stand
+-- behind CR.
+pub record IsPutEnd (o : ParseOption) (e : Text) (d : ℕ) (ds : Text) : Type 0 where
+  pub all : list_all is_line_end (d ∷ ds) ≡ true
+  pub feed : o.enabled_indented_comment ≡ false → is_line_feed (last_or d ds) ≡ true
+  pub same : o.enabled_indented_comment ≡ true → (c : ℕ)
+      → is_line_feed (last_or c e) ≡ is_line_feed (last_or d ds)
+
+pub new_put_end : {o : ParseOption} {d : ℕ} {ds : Text} → IsNewEnd d ds → IsPutEnd o (d ∷ ds) d ds
+new_put_end end = record { all = end.all; feed = λ _. end.feed; same = λ _ c. refl }
+
+-- where indented comments are off spans that begin with a mark stand in column one
+pub spans_column_off : {o : ParseOption} {c : ℕ} {r : Text} → o.enabled_indented_comment ≡ false
+    → (xs : List Span) → AreSpans o c xs r → BeginsWith is_comment_mark (joined span_source xs)
+    → is_column_one (c ∷ []) ≡ true
+spans_column_off {o} {c} off xs h m = at (spans_place xs h m)
+  where
+    at : CommentPlace o (c ∷ []) → is_column_one (c ∷ []) ≡ true
+    at (CommentPlace.column one) = one
+    at (CommentPlace.after_cr on starts late) = absurd (both_ways o.enabled_indented_comment off on)
 
 module _ {o : ParseOption} where
   -- line ends are a gap wherever they stand
@@ -52,28 +82,31 @@ module _ {o : ParseOption} where
       }
 
   -- Two spans put in where a line starts, and where what stands before stands before them.
-  pub spans_put_in : (xs : List Span) (p : Stretches) (key value : Text) {d : ℕ} {ds : Text} (zs : List
+  pub spans_put_in : (xs : List Span) (p : Stretches) (key value : Text) (d : ℕ) (ds : Text) (zs : List
       Span)
-      → IsNewEnd d ds → AreSpans o line_feed (xs ++ zs) []
+      → list_all is_line_end (d ∷ ds) ≡ true
+      → (BeginsWith is_comment_mark (joined span_source zs)
+      → is_line_feed (last_or line_feed (joined span_source xs)) ≡ is_line_feed (last_or d ds))
+      → AreSpans o line_feed (xs ++ zs) []
       → AreSpans o line_feed xs ((pair_source p ++ ((d ∷ ds) ++ [])) ++ (joined span_source zs ++ []))
       → starts_line (last_or line_feed (joined span_source xs) ∷ []) ≡ true
       → IsPair o (last_or line_feed (joined span_source xs)) p key value
       (((d ∷ ds) ++ []) ++ (joined span_source zs ++ []))
       → AreSpans o line_feed (xs ++ (pair p key value ∷ gap (d ∷ ds) ∷ zs)) []
-  spans_put_in xs p key value {d} {ds} zs end h front start is =
+  spans_put_in xs p key value d ds zs all column h front start is =
       let c = last_or line_feed (joined span_source xs) in
-      let rest : AreSpans o c zs [] = (in_place-split span_source xs zs h).1 in
       let last : last_or c (pair_source p ++ ((d ∷ ds) ++ [])) ≡ last_or d ds =
       last_or-append c (pair_source p) ((d ∷ ds) ++ [])
       ∙ ap (last_or (last_or c (pair_source p))) (append-nil (d ∷ ds)) in
-      let feed : is_line_feed (last_or c (pair_source p ++ ((d ∷ ds) ++ []))) ≡ true =
-      ap is_line_feed last ∙ end.feed in
+      let starts : is_line_end (last_or c (pair_source p ++ ((d ∷ ds) ++ []))) ≡ true =
+      ap is_line_end last ∙ all_last is_line_end d ds all in
       in_place-put span_source spans_local xs [] (pair p key value ∷ gap (d ∷ ds) ∷ []) zs h front
       (AreInPlace.more (IsSpan.is_pair is)
-      (AreInPlace.more (IsSpan.is_gap (line_ends_gap (d ∷ ds) end.all)) AreInPlace.none))
+      (AreInPlace.more (IsSpan.is_gap (line_ends_gap (d ∷ ds) all)) AreInPlace.none))
       (record {
-        line = λ _. start ∙ sym (line_starts (last_or c (pair_source p ++ ((d ∷ ds) ++ [])) ∷ []) feed);
-        column = λ m. spans_column zs rest m ∙ sym feed;
+        line = λ _. start ∙ sym starts;
+        column = λ m. column m ∙ sym (ap is_line_feed last);
+        comment = λ _ _. start ∙ sym starts;
       })
 
   -- a gap's first line end is a gap of its own
@@ -138,8 +171,8 @@ line_end_starts c LineEnd.lf = refl
 line_end_starts c LineEnd.cr_lf = refl
 line_end_starts c (LineEnd.cr n) = refl
 
-module _ {o : ParseOption} (off : o.enabled_indented_mutiline_value ≡ false) {d : ℕ} {ds : Text}
-    (end : IsNewEnd d ds) (q : Stretches) (key value : Text)
+module _ {o : ParseOption} (off : o.enabled_indented_mutiline_value ≡ false) (q : Stretches)
+    (key value : Text)
     (fits : (c : ℕ) (r : Text) → starts_line (c ∷ []) ≡ true → Closes plain_ends r
     → IsPair o c q key value r)
   where
@@ -147,10 +180,11 @@ module _ {o : ParseOption} (off : o.enabled_indented_mutiline_value ≡ false) {
     added = pair q key value
 
     -- a new line after a gap whose line ends
-    pub added_line : (ws : List Span) (zs : List Span) (e r : Text) → LineEnd e r
+    pub added_line : {d : ℕ} {ds : Text} (ws : List Span) (zs : List Span) (e r : Text) → LineEnd e r
+        → IsPutEnd o e d ds
         → AreSpans o line_feed (ws ++ (gap (e ++ r) ∷ zs)) []
         → AreSpans o line_feed (ws ++ (gap e ∷ added ∷ gap ((d ∷ ds) ++ r) ∷ zs)) []
-    added_line ws zs e r le h =
+    added_line {d} {ds} ws zs e r le end h =
         let vs = ws ++ gap e ∷ [] in
         let parted = gap_parted ws e r {x = r} zs (line_end_all le) le h in
         let text = (pair_source q ++ ((d ∷ ds) ++ [])) ++ (joined span_source (gap r ∷ zs) ++ []) in
@@ -168,8 +202,16 @@ module _ {o : ParseOption} (off : o.enabled_indented_mutiline_value ≡ false) {
         ap (λ c. starts_line (c ∷ [])) last
         ∙ line_end_starts (last_or line_feed (joined span_source ws)) le in
         let closes = line_end_closes d (and_parts (is_line_end d) (list_all is_line_end ds) end.all).0 in
-        let put = spans_put_in vs q key value (gap r ∷ zs) end (left ws (gap e ∷ []) (gap r ∷ zs)
-        parted) front
+        let there = left ws (gap e ∷ []) (gap r ∷ zs) parted in
+        let column : BeginsWith is_comment_mark (joined span_source (gap r ∷ zs))
+        → is_line_feed (last_or line_feed (joined span_source vs)) ≡ is_line_feed (last_or d ds) =
+        λ mark. elim (cases_Bool o.enabled_indented_comment) [
+          | inl on ↦ ap is_line_feed last ∙ end.same on (last_or line_feed (joined span_source ws))
+          | inr none ↦
+              spans_column_off none (gap r ∷ zs) (in_place-split span_source vs (gap r ∷ zs) there).1 mark
+              ∙ sym (end.feed none)
+        ] in
+        let put = spans_put_in vs q key value d ds (gap r ∷ zs) end.all column there front
         starts (fits _ _ starts closes) in
         right ws (gap e ∷ []) (added ∷ gap ((d ∷ ds) ++ r) ∷ zs)
         (right vs (added ∷ []) (gap ((d ∷ ds) ++ r) ∷ zs)
@@ -177,11 +219,11 @@ module _ {o : ParseOption} (off : o.enabled_indented_mutiline_value ≡ false) {
         (left vs (added ∷ []) (gap (d ∷ ds) ∷ gap r ∷ zs) put)))
 
     -- a pair that nothing follows with its line ended
-    pub line_ended : (xs zs : List Span) (p : PairPiece)
+    pub line_ended : {d : ℕ} {ds : Text} → IsNewEnd d ds → (xs zs : List Span) (p : PairPiece)
         → AreSpans o line_feed (xs ++ (pair p.stretches p.key p.value ∷ gap [] ∷ zs)) []
         → AreSpans o line_feed (xs ++ (pair (closed_stretches o p.stretches) p.key p.value ∷ gap (d ∷
         ds) ∷ zs)) []
-    line_ended xs zs p h =
+    line_ended {d} {ds} end xs zs p h =
         at (in_place-split span_source xs (pair p.stretches p.key p.value ∷ gap [] ∷ zs) h).1
       where
         c : ℕ

@@ -18,7 +18,7 @@ use Rattle.ini_edit.specs.Inside.Spans.{span_source}
 use Rattle.ini_edit.specs.SourceEdits.{with_pairs}
 use Rattle.ini_edit.specs.SourceEditsAdd.{closed_value}
 use Rattle.ini_edit.specs.SourceEditsDelete.{line_end_after, lines_after, with_rest}
-use Rattle.ini_edit.specs.SourceEditsSections.{is_pair_ended, section_rest, with_last_closed}
+use Rattle.ini_edit.specs.SourceEditsSections.{is_pair_ended, rest_before_header, with_last_closed}
 use Rattle.ini_edit.specs.SourceLines.{comments_at_end, indentation_at_end, is_empty}
 use Rattle.ini_edit.specs.SourcePlaces.{gap_of, is_nil, last_gap, with_after, with_end, with_raw_value}
 use Rattle.ini_edit.specs.Sources.{PairPiece, SectionPiece, joined, section_text}
@@ -169,14 +169,13 @@ pub cut_rest_is : (before rest : Text) {gap : Text} → before ++ rest ≡ gap �
 cut_rest_is before rest whole =
     ap (drop (length before)) (sym whole) ∙ drop_at before rest (length before) refl
 
-pub rest_not_last : (is_last : Bool) (before : ℕ) (gap indentation comments : Text) → is_last ≡ false
+pub comments_and_indentation : (before : ℕ) (gap indentation comments : Text)
     → indentation ≡ indentation_at_end before gap
     → comments ≡ comments_at_end before (front_of gap indentation)
-    → comments ++ indentation ≡ section_rest is_last before gap
-rest_not_last is_last before gap indentation comments apart is_indentation is_comments =
+    → comments ++ indentation ≡ rest_before_header before gap
+comments_and_indentation before gap indentation comments is_indentation is_comments =
     ap (λ c. c ++ indentation) is_comments
     ∙ ap (λ i. comments_at_end before (front_of gap i) ++ i) is_indentation
-    ∙ sym (cond-false is_last _ _ apart)
 
 -- the text up to a gap
 pub text_one_on : (s : SectionPiece) (xs : List PairPiece) (i : ℕ) (x : PairPiece) → i < length xs

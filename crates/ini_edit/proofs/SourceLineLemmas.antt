@@ -1,5 +1,5 @@
 -- What follows a place of a text is a rest of it: a front and that rest joined are the text.
-use Rattle.std.proofs.Common.{◌≡◌, ◌∙◌, ◌≤◌, ◌||◌, ◌&&◌, ℕ, Bool, true, false, not, cond, List, [], ◌∷◌}
+use Rattle.std.proofs.Common.{◌≡◌, ◌∙◌, ◌≤◌, ◌||◌, ◌&&◌, ℕ, Bool, true, false, cond, List, [], ◌∷◌}
 use Rattle.std.proofs.Common.{◌++◌, Option, None, Some, ap, append-nil, arith, length, length-append, refl}
 use Rattle.std.proofs.Common.{IsUtf8, chars, encode_utf8_all, eqb, ne_eqb, subst, sym, ◌≢◌}
 use Rattle.std.proofs.lemmas.Bool.{cond_both}
@@ -14,14 +14,15 @@ use Rattle.ini_text.specs.Inside.PlainTests.{begins}
 use Rattle.ini_text.specs.Parsing.Fronts.{IsRest, front_of}
 use Rattle.ini_text.proofs.StringLemmas.FrontLemmas.{front_grows, front_is}
 use Rattle.ini_text.specs.declared.option.ParseOption.{ParseOption}
-use Rattle.ini_edit.specs.Endings.{Ending}
 use Rattle.ini_edit.specs.SourceLines.{is_blank_or_line_end}
 use Rattle.ini_edit.specs.SourceLines.{after_blank_lines, after_blanks, after_comment, after_comments}
-use Rattle.ini_edit.specs.SourceLines.{after_line, after_line_end, after_line_feed, are_comments}
-use Rattle.ini_edit.specs.SourceLines.{blank_lines_at_end, blank_lines_from, blanks_at_end}
-use Rattle.ini_edit.specs.SourceLines.{comments_at_end, dropped_key, from_last_solid, indentation_at_end}
+use Rattle.ini_edit.specs.SourceLines.{after_line, after_line_end, after_line_feed, are_comments, are_quiet}
+use Rattle.ini_edit.specs.SourceLines.{LinePlace, blanks_at_end, quiet_lines_at_end, quiet_lines_from}
+use Rattle.ini_edit.specs.SourceLines.{CommentState, begins_solid, comments_at_end, dropped_key}
+use Rattle.ini_edit.specs.SourceLines.{dropped_key_from, from_last_solid, indentation_at_end, is_outside}
+use Rattle.ini_edit.specs.SourceLines.{last_solid_from, may_begin_key, next_comment}
 use Rattle.ini_edit.specs.SourceLines.{is_empty, is_in_comment, is_line, is_one_line_end, line_end_at_end}
-use Rattle.ini_edit.specs.SourceLines.{next_line_end}
+use Rattle.ini_edit.specs.SourceLines.{next_place}
 
 pub rest_from : (front rest text : Text) → front ++ rest ≡ text → IsRest text rest
 rest_from front rest text h = ap (λ x. x ++ rest) (front_is front rest text h) ∙ h
@@ -113,38 +114,47 @@ blanks_at_end-rest [] = none_rest []
 blanks_at_end-rest (c ∷ cs) =
     all_or (list_all is_blank (c ∷ cs)) c cs (blanks_at_end cs) (blanks_at_end-rest cs)
 
-pub blank_lines_from-rest : (o : ParseOption) (e : Ending) (t : Text) → IsRest t (blank_lines_from o e t)
-blank_lines_from-rest o e [] = none_rest []
-blank_lines_from-rest o e (c ∷ cs) =
-    all_or (is_line e && list_all is_blank_or_line_end (c ∷ cs)) c cs
-    (blank_lines_from o (next_line_end o e c cs) cs) (blank_lines_from-rest o (next_line_end o e c cs) cs)
+pub quiet_lines_from-rest : (o : ParseOption) (p : LinePlace) (t : Text) → IsRest t (quiet_lines_from o p t)
+quiet_lines_from-rest o p [] = none_rest []
+quiet_lines_from-rest o p (c ∷ cs) =
+    all_or (is_line p && are_quiet o p (c ∷ cs)) c cs (quiet_lines_from o (next_place o p c cs) cs)
+    (quiet_lines_from-rest o (next_place o p c cs) cs)
 
-pub blank_lines_at_end-rest : (o : ParseOption) (t : Text) → IsRest t (blank_lines_at_end o t)
-blank_lines_at_end-rest o t = blank_lines_from-rest o Ending.inside t
+pub quiet_lines_at_end-rest : (o : ParseOption) (t : Text) → IsRest t (quiet_lines_at_end o t)
+quiet_lines_at_end-rest o t = quiet_lines_from-rest o LinePlace.within t
 
-pub dropped_key-rest : (inside : Bool) (before : ℕ) (t : Text) → IsRest t (dropped_key inside before t)
-dropped_key-rest inside before [] = none_rest []
-dropped_key-rest inside before (c ∷ cs) =
-    all_or (not inside && (is_line_end before
-    && (is_blank c && begins (λ x. not (is_line_end x)) (after_blanks (c ∷ cs))))) c cs
-    (dropped_key (is_in_comment inside c) c cs) (dropped_key-rest (is_in_comment inside c) c cs)
+dropped_key_from-rest : (o : ParseOption) (state : CommentState) (before : ℕ) (t : Text)
+    → IsRest t (dropped_key_from o state before t)
+dropped_key_from-rest o state before [] = none_rest []
+dropped_key_from-rest o state before (c ∷ cs) =
+    all_or (is_outside state && (is_line_end before
+    && (is_blank c && begins (may_begin_key o) (after_blanks (c ∷ cs))))) c cs
+    (dropped_key_from o (next_comment state before c) c cs)
+    (dropped_key_from-rest o (next_comment state before c) c cs)
+
+pub dropped_key-rest : (o : ParseOption) (before : ℕ) (t : Text) → IsRest t (dropped_key o before t)
+dropped_key-rest o before t = dropped_key_from-rest o CommentState.outside before t
 
 pub after_blank_lines-rest : (t : Text) → IsRest t (after_blank_lines t)
 after_blank_lines-rest [] = none_rest []
 after_blank_lines-rest (c ∷ cs) =
     or_all (is_blank_or_line_end c) c cs (after_blank_lines cs) (after_blank_lines-rest cs)
 
-pub from_last_solid-rest : (inside : Bool) (t r : Text) → from_last_solid inside t ≡ Some r → IsRest t r
-from_last_solid-rest inside [] r h = absurd (let no : None ≡ Some r = h in cc)
-from_last_solid-rest inside (c ∷ cs) r h =
-    by (from_last_solid (is_in_comment inside c) cs) (inside || is_blank_or_line_end c) h
-    (from_last_solid-rest (is_in_comment inside c) cs r)
+last_solid_from-rest : (state : CommentState) (before : ℕ) (t r : Text)
+    → last_solid_from state before t ≡ Some r → IsRest t r
+last_solid_from-rest state before [] r h = absurd (let no : None ≡ Some r = h in cc)
+last_solid_from-rest state before (c ∷ cs) r h =
+    by (last_solid_from (next_comment state before c) c cs) (is_outside state && begins_solid before c) h
+    (last_solid_from-rest (next_comment state before c) c cs r)
   where
-    by : (x : Option Text) (b : Bool) → option_or x (cond b None (Some (c ∷ cs))) ≡ Some r
+    by : (x : Option Text) (b : Bool) → option_or x (cond b (Some (c ∷ cs)) None) ≡ Some r
         → (x ≡ Some r → IsRest cs r) → IsRest (c ∷ cs) r
-    by None true h more = absurd (let no : None ≡ Some r = h in cc)
-    by None false h more = let same : c ∷ cs ≡ r = cc in subst (IsRest (c ∷ cs)) same (all_rest (c ∷ cs))
+    by None false h more = absurd (let no : None ≡ Some r = h in cc)
+    by None true h more = let same : c ∷ cs ≡ r = cc in subst (IsRest (c ∷ cs)) same (all_rest (c ∷ cs))
     by (Some x) b h more = rest_under c cs r (more h)
+
+pub from_last_solid-rest : (before : ℕ) (t r : Text) → from_last_solid before t ≡ Some r → IsRest t r
+from_last_solid-rest before t r h = last_solid_from-rest CommentState.outside before t r h
 
 -- whether a text is empty, by its bytes
 pub empty_chars : (bytes : List ℕ) → IsUtf8 bytes → eqb (length bytes) 0 ≡ is_empty (chars bytes)

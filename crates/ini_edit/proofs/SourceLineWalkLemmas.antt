@@ -10,11 +10,10 @@ use Rattle.ini_text.specs.Grammar.CharacterKinds.{is_blank, is_comment_mark, is_
 use Rattle.ini_text.specs.Grammar.CharacterKinds.{line_feed, space, tab}
 use Rattle.ini_text.specs.Inside.PlainTests.{begins}
 use Rattle.ini_text.specs.declared.option.ParseOption.{ParseOption}
-use Rattle.ini_edit.specs.Endings.{Ending}
-use Rattle.ini_edit.specs.SourceLines.{is_blank_or_line_end}
-use Rattle.ini_edit.specs.SourceLines.{after_comment, after_comments, are_comments, blank_lines_from}
-use Rattle.ini_edit.specs.SourceLines.{blanks_at_end, comments_at_end, from_last_solid, indentation_at_end}
-use Rattle.ini_edit.specs.SourceLines.{is_in_comment, is_line, next_line_end}
+use Rattle.ini_edit.specs.SourceLines.{after_comment, after_comments, are_comments, are_quiet}
+use Rattle.ini_edit.specs.SourceLines.{CommentState, begins_solid, blanks_at_end, comments_at_end}
+use Rattle.ini_edit.specs.SourceLines.{indentation_at_end, is_line, is_outside, last_solid_from}
+use Rattle.ini_edit.specs.SourceLines.{LinePlace, next_comment, next_place, quiet_lines_from, stays_quiet}
 use Rattle.ini_edit.proofs.SourceLineLemmas.{after_comment-rest, rest_le}
 
 -- comment lines
@@ -208,27 +207,29 @@ blanks_step blanks {c = c} {after = after} is new so_far =
     ap (λ n. blanks_so_far n after) new ∙ sym (blanks_more c blanks after)
     ∙ ap (blanks_so_far blanks) (sym is) ∙ so_far
 
--- the blank lines at the end, where those from `lines` on go on to the rest, if `blank` says so
-abbrev pub blank_lines_so_far : (o : ParseOption) → Ending → (blank : Bool) → (lines rest : Text) → Text
-blank_lines_so_far o e blank lines rest =
-    cond (blank && list_all is_blank_or_line_end rest) lines (blank_lines_from o e rest)
+-- the quiet lines at the end, where those from `lines` on go on to the rest, if `quiet` says so
+abbrev pub quiet_so_far : (o : ParseOption) → LinePlace → (quiet : Bool) → (lines rest : Text) → Text
+quiet_so_far o p quiet lines rest =
+    cond (quiet && are_quiet o p rest) lines (quiet_lines_from o p rest)
 
-pub blank_lines_more : (o : ParseOption) (e : Ending) (blank : Bool) (c : ℕ) (lines after : Text)
-    → blank_lines_so_far o e blank lines (c ∷ after) ≡ blank_lines_so_far o (next_line_end o e c after)
-    (is_blank_or_line_end c && (blank || is_line e))
-    (cond (is_blank_or_line_end c && (not blank && is_line e)) (c ∷ after) lines) after
-blank_lines_more o e blank c lines after = by blank (is_line e) (is_blank_or_line_end c)
+pub quiet_more : (o : ParseOption) (p : LinePlace) (quiet : Bool) (c : ℕ) (lines after : Text)
+    → quiet_so_far o p quiet lines (c ∷ after) ≡ quiet_so_far o (next_place o p c after)
+    (stays_quiet o p c && (quiet || is_line p))
+    (cond (stays_quiet o p c && (not quiet && is_line p)) (c ∷ after) lines) after
+quiet_more o p quiet c lines after = by quiet (is_line p) (stays_quiet o p c)
   where
-    by : (blank line m : Bool)
-        → cond (blank && (m && list_all is_blank_or_line_end after)) lines
-        (cond (line && (m && list_all is_blank_or_line_end after)) (c ∷ after)
-        (blank_lines_from o (next_line_end o e c after) after))
-        ≡ blank_lines_so_far o (next_line_end o e c after) (m && (blank || line))
-        (cond (m && (not blank && line)) (c ∷ after) lines) after
+    all : Bool
+    all = are_quiet o (next_place o p c after) after
+
+    by : (quiet line m : Bool)
+        → cond (quiet && (m && all)) lines
+        (cond (line && (m && all)) (c ∷ after) (quiet_lines_from o (next_place o p c after) after))
+        ≡ quiet_so_far o (next_place o p c after) (m && (quiet || line))
+        (cond (m && (not quiet && line)) (c ∷ after) lines) after
     by true true true =
-        elim (list_all is_blank_or_line_end after) as (λ b. cond b lines
-        (cond b (c ∷ after) (blank_lines_from o (next_line_end o e c after) after))
-        ≡ cond b lines (blank_lines_from o (next_line_end o e c after) after)) [
+        elim all as (λ b. cond b lines
+        (cond b (c ∷ after) (quiet_lines_from o (next_place o p c after) after))
+        ≡ cond b lines (quiet_lines_from o (next_place o p c after) after)) [
           | true ↦ refl
           | false ↦ refl
         ]
@@ -240,19 +241,31 @@ blank_lines_more o e blank c lines after = by blank (is_line e) (is_blank_or_lin
     by false false true = refl
     by false false false = refl
 
--- the last solid part, which is in the rest or is this one
-abbrev pub solid_so_far : (inside : Bool) → Option Text → (rest : Text) → Option Text
-solid_so_far inside solid rest = option_or (from_last_solid inside rest) solid
+pub quiet_step : (o : ParseOption) (p : LinePlace) (quiet : Bool) {q : LinePlace} {goes_on : Bool} {c : ℕ}
+    {rest after new whole : Text} (lines : Text) → rest ≡ c ∷ after
+    → goes_on ≡ (stays_quiet o p c && (quiet || is_line p))
+    → new ≡ cond (stays_quiet o p c && (not quiet && is_line p)) rest lines → q ≡ next_place o p c after
+    → quiet_so_far o p quiet lines rest ≡ whole → quiet_so_far o q goes_on new after ≡ whole
+quiet_step o p quiet {c = c} {after = after} {new} lines is marks lines_are next so_far =
+    let m = stays_quiet o p c in
+    let starts : new ≡ cond (m && (not quiet && is_line p)) (c ∷ after) lines =
+    lines_are ∙ ap (λ t. cond (m && (not quiet && is_line p)) t lines) is in
+    rw (marks, starts, next)
+    (sym (quiet_more o p quiet c lines after) ∙ ap (quiet_so_far o p quiet lines) (sym is) ∙ so_far)
 
-pub solid_more : (inside : Bool) (solid : Option Text) (c : ℕ) (after : Text)
-    → solid_so_far inside solid (c ∷ after)
-    ≡ solid_so_far (is_in_comment inside c)
-    (cond (inside || is_blank_or_line_end c) solid (Some (c ∷ after))) after
-solid_more inside solid c after =
-    by (from_last_solid (is_in_comment inside c) after) (inside || is_blank_or_line_end c)
+-- the last solid part, which is in the rest or is this one
+abbrev pub solid_so_far : CommentState → (before : ℕ) → Option Text → (rest : Text) → Option Text
+solid_so_far state before solid rest = option_or (last_solid_from state before rest) solid
+
+pub solid_more : (state : CommentState) (before : ℕ) (solid : Option Text) (c : ℕ) (after : Text)
+    → solid_so_far state before solid (c ∷ after)
+    ≡ solid_so_far (next_comment state before c) c
+    (cond (is_outside state && begins_solid before c) (Some (c ∷ after)) solid) after
+solid_more state before solid c after =
+    by (last_solid_from (next_comment state before c) c after) (is_outside state && begins_solid before c)
   where
-    by : (x : Option Text) (b : Bool) → option_or (option_or x (cond b None (Some (c ∷ after)))) solid
-        ≡ option_or x (cond b solid (Some (c ∷ after)))
+    by : (x : Option Text) (b : Bool) → option_or (option_or x (cond b (Some (c ∷ after)) None)) solid
+        ≡ option_or x (cond b (Some (c ∷ after)) solid)
     by None true = refl
     by None false = refl
     by (Some x) b = refl

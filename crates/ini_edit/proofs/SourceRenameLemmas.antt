@@ -104,6 +104,7 @@ module _ {o : ParseOption} {policy : EscapePolicy} {other : Text} (plain : IsPla
             separates = is.separates;
             gives = is.gives;
             white_before = is.white_before;
+            starts = is.starts;
             white_after = is.white_after;
             are_trailing = is.are_trailing;
             own_lines = is.own_lines;
@@ -187,12 +188,12 @@ module _ {o : ParseOption} {policy : EscapePolicy} {other : Text} (plain : IsPla
 
 -- after another header the rest is read as before
 header_agrees : {o : ParseOption} {s r z name : Text} (c : ℕ) (t : Text) → IsHeader o s r name → r ≡ z
-    → Agree (last_or c s ∷ []) (last_or c (open_bracket ∷ (t ++ close_bracket ∷ [])) ∷ []) z
+    → Agree o (last_or c s ∷ []) (last_or c (open_bracket ∷ (t ++ close_bracket ∷ [])) ∷ []) z
 header_agrees c t (IsHeader.plain {s = s} off str) same =
     last_agrees (last_or-append open_bracket s (close_bracket ∷ [])
     ∙ sym (last_or-append open_bracket t (close_bracket ∷ [])))
-header_agrees c t (IsHeader.bracketed {s = s} {r = r} on str i) same =
-    subst (Agree (last_or c (open_bracket ∷ s) ∷ [])
+header_agrees {o} c t (IsHeader.bracketed {s = s} {r = r} on str i) same =
+    subst (Agree o (last_or c (open_bracket ∷ s) ∷ [])
     (last_or c (open_bracket ∷ (t ++ close_bracket ∷ [])) ∷ [])) same
     (closed_agrees r (plain_closes r (str_closes str)))
 
@@ -229,9 +230,9 @@ module _ {o : ParseOption} (policy : EscapePolicy) (other : Text) (plain : IsPla
           (AreInPlace.more (IsSpan.header (header_anew policy other plain (as_header e))) AreInPlace.none)
           (headers_begin header (escaped policy other ++ close_bracket ∷ []) (following ++ [])
           (header_bracket (as_header e)))
-          (subst (λ t. Agree (last_or c t ∷ []) (last_or c (header_of policy other ++ []) ∷ []) following)
+          (subst (λ t. Agree o (last_or c t ∷ []) (last_or c (header_of policy other ++ []) ∷ []) following)
           (sym (append-nil header))
-          (subst (λ t. Agree (last_or c header ∷ []) (last_or c t ∷ []) following)
+          (subst (λ t. Agree o (last_or c header ∷ []) (last_or c t ∷ []) following)
           (sym (append-nil (header_of policy other)))
           (header_agrees c (escaped policy other) (as_header e) (append-nil following))))
 

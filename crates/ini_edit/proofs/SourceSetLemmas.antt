@@ -1,15 +1,15 @@
 -- A pair's value set in a text in pieces.
 use Rattle.std.proofs.Common.{◌≡◌, ◌≢◌, ◌∙◌, ℕ, Bool, true, false, cond, List, [], ◌∷◌, ◌++◌, append_assoc}
 use Rattle.std.proofs.Common.{append-nil, get_or, map, set}
-use Rattle.std.proofs.Common.{None, Option, Some, ap, refl, sym, subst, ◌==◌, eqb-true, inl, inr}
-use Rattle.std.proofs.lemmas.Bool.{both_ways, false≢true, or_cases}
+use Rattle.std.proofs.Common.{None, Option, Some, ap, refl, sym, subst}
+use Rattle.std.proofs.lemmas.Bool.{both_ways, false≢true}
 use Rattle.std.proofs.lemmas.List.{set-get_or}
 use Rattle.std.proofs.lemmas.List.Elements.{All-cons, All-nil}
 use Rattle.std.specs.List.{All}
 use Rattle.std.specs.Map.{set_value}
 use Rattle.std.specs.Option.{option_map}
 use Rattle.std.specs.Prelude.{option_and_then}
-use Rattle.ini_text.specs.Grammar.CharacterKinds.{is_blank, is_comment_mark, is_line_end, line_feed}
+use Rattle.ini_text.specs.Grammar.CharacterKinds.{is_blank, is_comment_mark, line_feed}
 use Rattle.ini_text.specs.Grammar.Places.{Stretches, TrailingLines, pair_source}
 use Rattle.ini_text.specs.Grammar.Positions.{last_or, is_column_one, starts_line}
 use Rattle.ini_text.specs.Grammar.Strings.{Closes, plain_ends}
@@ -39,42 +39,44 @@ use Rattle.ini_edit.proofs.FirstLemmas.{changed_first, entry_changed, first_stan
 use Rattle.ini_edit.proofs.FirstLemmas.{lookup_first, stands_there}
 use Rattle.ini_edit.proofs.InPlaceLemmas.{in_place-exchanged, in_place-split}
 use Rattle.ini_edit.proofs.OwnBeforeLemmas.{own_padded}
-use Rattle.ini_edit.proofs.QuoteLemmas.{lines_in, quote_for, source_in}
+use Rattle.ini_edit.proofs.QuietLemmas.{line_end_no_mark}
+use Rattle.ini_edit.proofs.QuoteLemmas.{lines_in, quote_for, source_in, starts_in}
 use Rattle.ini_edit.proofs.SourceReadLemmas.{begin-same, pairs_spans-append, sections_spans-append}
 use Rattle.ini_edit.proofs.SpanLemmas.{own_source, spans_local}
 use Rattle.ini_edit.proofs.ValueLemmas.{closes_line_end, tail_closes, value_written}
 
-pub line_end_no_mark : (c : ℕ) → is_line_end c ≡ true → is_comment_mark c ≡ false
-line_end_no_mark c h =
-    elim (or_cases (c == 10) (c == 13) h)
-    [ inl q ↦ rw (eqb-true c 10 q) refl | inr q ↦ rw (eqb-true c 13 q) refl ]
-
 -- before nothing all fronts agree
-pub before_nothing : {b c : Text} → Agree b c []
-before_nothing = record { line = λ h. absurd (false≢true (sym h)); column = λ h. absurd (false≢true (sym h)) }
+pub before_nothing : {o : ParseOption} {b c : Text} → Agree o b c []
+before_nothing = record {
+  line = λ h. absurd (false≢true (sym h));
+  column = λ h. absurd (false≢true (sym h));
+  comment = λ _ h. absurd (false≢true (sym h));
+}
 
 -- and before what closes a line
-pub closed_agrees : {b c : Text} (x : Text) → Closes plain_ends x → Agree b c x
+pub closed_agrees : {o : ParseOption} {b c : Text} (x : Text) → Closes plain_ends x → Agree o b c x
 closed_agrees [] h = before_nothing
 closed_agrees (d ∷ x) h = record {
   line = λ b. absurd (both_ways (is_blank d) (line_end_no_blank d (closes_line_end d h)) b);
   column = λ b. absurd (both_ways (is_comment_mark d) (line_end_no_mark d (closes_line_end d h)) b);
+  comment = λ _ b. absurd (both_ways (is_comment_mark d) (line_end_no_mark d (closes_line_end d h)) b);
 }
 
 -- fronts whose last characters are the same agree
-pub last_agrees : {c d : ℕ} {x : Text} → c ≡ d → Agree (c ∷ []) (d ∷ []) x
+pub last_agrees : {o : ParseOption} {c d : ℕ} {x : Text} → c ≡ d → Agree o (c ∷ []) (d ∷ []) x
 last_agrees last = record {
   line = λ _. ap (λ z. starts_line (z ∷ [])) last;
   column = λ _. ap (λ z. is_column_one (z ∷ [])) last;
+  comment = λ _ _. ap (λ z. starts_line (z ∷ [])) last;
 }
 
 -- what ends a value is read as before, whatever stands before the value's tail
 tail_agrees : (c : ℕ) {o : ParseOption} {t x r : Text} (u v : Text) → x ≡ r → TrailingLines o t x
-    → Agree (last_or c (u ++ t) ∷ []) (last_or c (v ++ t) ∷ []) r
-tail_agrees c u v same (TrailingLines.line {r = x} off closes) =
-    subst (Agree (last_or c (u ++ []) ∷ []) (last_or c (v ++ []) ∷ [])) same (closed_agrees x closes)
-tail_agrees c u v same (TrailingLines.end on) =
-    subst (Agree (last_or c (u ++ []) ∷ []) (last_or c (v ++ []) ∷ [])) same before_nothing
+    → Agree o (last_or c (u ++ t) ∷ []) (last_or c (v ++ t) ∷ []) r
+tail_agrees c {o} u v same (TrailingLines.line {r = x} off closes) =
+    subst (Agree o (last_or c (u ++ []) ∷ []) (last_or c (v ++ []) ∷ [])) same (closed_agrees x closes)
+tail_agrees c {o} u v same (TrailingLines.end on) =
+    subst (Agree o (last_or c (u ++ []) ∷ []) (last_or c (v ++ []) ∷ [])) same before_nothing
 tail_agrees c u v same (TrailingLines.lines {e} {t} on end more all) =
     last_agrees (ends c u v t end)
   where
@@ -128,6 +130,7 @@ module _ {o : ParseOption} {policy : EscapePolicy} {value source : Text}
         gives = value_written p.stretches.space_before p.stretches.space_after h.white_before h.white_after
             (source_in writable (quote_for keeps)) h.are_trailing;
         white_before = h.white_before;
+        starts = starts_in writable (quote_for keeps);
         white_after = h.white_after;
         are_trailing = h.are_trailing;
         own_lines = own_padded p.stretches.space_after (p.stretches.trailing_lines ++ r) h.white_after
@@ -154,10 +157,10 @@ module _ {o : ParseOption} (source value : Text) (p : PairPiece) (may : MayStand
           (the_new ∷ []) rest h
           (AreInPlace.more (IsSpan.is_pair (may _ _ is)) AreInPlace.none)
           (keys_begin p.stretches.key p.stretches.separator _ _ (joined span_source rest ++ []))
-          (subst (λ t. Agree (last_or c (pair_source p.stretches ++ []) ∷ []) (last_or c t ∷ [])
+          (subst (λ t. Agree o (last_or c (pair_source p.stretches ++ []) ∷ []) (last_or c t ∷ [])
           (joined span_source rest))
           (sym (with_tail (with_value source value p).stretches))
-          (subst (λ t. Agree (last_or c t ∷ [])
+          (subst (λ t. Agree o (last_or c t ∷ [])
           (last_or c (before_tail
           (with_value source value p).stretches ++ p.stretches.trailing_lines) ∷ [])
           (joined span_source rest))

@@ -13,7 +13,7 @@ use Rattle.ini_edit.specs.SourcePlaces.{PairPlace, Place, exchanged, pair_place}
 use Rattle.ini_edit.specs.SourceWritten.{IsFirstReadAs, IsReadAs, IsWrittenInPlace}
 use Rattle.ini_edit.specs.Sources.{PairPiece, SectionPiece}
 use Rattle.ini_edit.proofs.OwnBeforeLemmas.{own_padded}
-use Rattle.ini_edit.proofs.ReadAsLemmas.{read_closed, read_source, value_read}
+use Rattle.ini_edit.proofs.ReadAsLemmas.{read_closed, read_source, source_starts, value_read}
 use Rattle.ini_edit.proofs.SourcePlaceLemmas.{place_here, place_read, place_set, place_within}
 use Rattle.ini_edit.proofs.SourceSetLemmas.{MayStand, sections_own, spans_set}
 use Rattle.ini_edit.proofs.SourceSpanLemmas.{pairs_put_in, spans_after_pairs, spans_before_pairs}
@@ -42,6 +42,7 @@ module _ {o : ParseOption} {value : Text} where
             gives = value_read is p.stretches.space_before p.stretches.trailing_lines r
                 p.stretches.space_after h.white_before h.white_after h.are_trailing;
             white_before = h.white_before;
+            starts = source_starts is;
             white_after = h.white_after;
             are_trailing = h.are_trailing;
             own_lines = own_padded p.stretches.space_after (p.stretches.trailing_lines ++ r) h.white_after

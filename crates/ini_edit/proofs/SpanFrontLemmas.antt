@@ -62,6 +62,7 @@ module _ {o : ParseOption} {x : Text} (follows : Follows o x) {y : Text} where
         separates = h.separates;
         gives = value_before follows front h.gives;
         white_before = h.white_before;
+        starts = h.starts;
         white_after = h.white_after;
         are_trailing = tail_before follows front h.are_trailing;
         own_lines = own_ahead x front h.are_trailing h.own_lines;

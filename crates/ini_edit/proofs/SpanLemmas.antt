@@ -57,7 +57,7 @@ module _ {o : ParseOption} where
   own_source {p = p} {r = r} h =
       record { space_after = p.space_after; rest = p.trailing_lines ++ r; lines = h.own_lines }
 
-  span_like : {c d : ℕ} {x : Span} {r : Text} → Agree (c ∷ []) (d ∷ []) (span_source x) → IsSpan o c x r
+  span_like : {c d : ℕ} {x : Span} {r : Text} → Agree o (c ∷ []) (d ∷ []) (span_source x) → IsSpan o c x r
       → IsSpan o d x r
   span_like a IsSpan.general = IsSpan.general
   span_like a (IsSpan.header e) = IsSpan.header (Element-like a e)
@@ -67,6 +67,7 @@ module _ {o : ParseOption} where
     separates = h.separates;
     gives = h.gives;
     white_before = h.white_before;
+    starts = h.starts;
     white_after = h.white_after;
     are_trailing = h.are_trailing;
     own_lines = h.own_lines;
@@ -76,7 +77,7 @@ module _ {o : ParseOption} where
     pieces = h.pieces;
     whole = h.whole;
     nothing = h.nothing;
-    are = pieces_like (subst (Agree (c ∷ []) (d ∷ [])) h.whole a) h.are;
+    are = pieces_like (subst (Agree o (c ∷ []) (d ∷ [])) h.whole a) h.are;
   })
 
   pub span_before : {c : ℕ} {x : Span} {r y : Text} → BeginAlike r y → IsSpan o c x r → IsSpan o c x y
@@ -88,6 +89,7 @@ module _ {o : ParseOption} where
     separates = h.separates;
     gives = Value-before a h.gives;
     white_before = h.white_before;
+    starts = h.starts;
     white_after = h.white_after;
     are_trailing = TrailingLines-before a h.are_trailing;
     own_lines = own_before (BeginAlike-after p.trailing_lines a) h.own_lines;
@@ -100,7 +102,7 @@ module _ {o : ParseOption} where
     are = pieces_before a h.are;
   })
 
-  pub spans_local : IsLocal span_source (IsSpan o)
+  pub spans_local : IsLocal span_source (IsSpan o) o
   spans_local = record {
     front = λ c d x r a h. span_like a h;
     follows = λ c x r other a h. span_before a h;

@@ -11,7 +11,7 @@ use Rattle.std.specs.List.{list_all}
 use Rattle.ini_text.specs.Grammar.CharacterKinds.{BeginsWith, BeginsWithNo, carriage_return, is_comment_mark}
 use Rattle.ini_text.specs.Grammar.CharacterKinds.{is_line_end, is_line_feed, line_feed, open_bracket}
 use Rattle.ini_text.specs.Grammar.Places.{pair_source, value_source}
-use Rattle.ini_text.specs.Grammar.Positions.{is_column_one, last_or}
+use Rattle.ini_text.specs.Grammar.Positions.{last_or}
 use Rattle.ini_text.specs.Grammar.Values.{LineEnd}
 use Rattle.ini_text.specs.Inside.PlainTests.{begins}
 use Rattle.ini_text.specs.Parsing.Fronts.{front_of}
@@ -22,19 +22,18 @@ use Rattle.ini_text.proofs.LawLemmas.OneAheadLemmas.{Alike, KeyFront-alike}
 use Rattle.ini_text.proofs.LawLemmas.PieceLemmas.{last_or-append}
 use Rattle.ini.specs.Texts.{Text}
 use Rattle.ini_edit.specs.Inside.InPlace.{AreInPlace}
-use Rattle.ini_edit.specs.Inside.SourceEnds.{goes_after}
 use Rattle.ini_edit.specs.Inside.Spans.{AreSections, AreSpans, BeginGeneral, IsSpan, Span, gap, opening, pair}
 use Rattle.ini_edit.specs.Inside.Spans.{pairs_spans, sections_spans, span_source}
 use Rattle.ini_edit.specs.SourceEdits.{with_pairs}
-use Rattle.ini_edit.specs.SourceEditsDelete.{gap_after, goes_with_line_end, line_end_after, lines_after}
-use Rattle.ini_edit.specs.SourceEditsDelete.{pair_taken_out, rest_put, with_rest}
-use Rattle.ini_edit.specs.SourceLines.{after_line_end, after_line_feed, blank_lines_at_end, ends_in_line}
-use Rattle.ini_edit.specs.SourceLines.{is_empty, line_end_at_end}
+use Rattle.ini_edit.specs.SourceEditsDelete.{gap_after, goes_after, left_after, line_end_left}
+use Rattle.ini_edit.specs.SourceEditsDelete.{lines_after, pair_taken_out, rest_put, with_rest}
+use Rattle.ini_edit.specs.SourceLines.{after_line_end, after_line_feed, ends_alike, ends_in_line}
+use Rattle.ini_edit.specs.SourceLines.{is_empty, line_end_at_end, quiet_lines_at_end}
 use Rattle.ini_edit.specs.SourcePlaces.{text_up_to, with_after, with_end}
 use Rattle.ini_edit.specs.Sources.{PairPiece, SectionPiece, joined, sections_text}
 use Rattle.ini_edit.proofs.AheadLemmas.{any_follows}
 use Rattle.ini_edit.proofs.CommentLemmas.{no_key}
-use Rattle.ini_edit.proofs.DeletedLinesLemmas.{begins_here, staying}
+use Rattle.ini_edit.proofs.DeletedLinesLemmas.{alike_is, begins_here, staying}
 use Rattle.ini_edit.proofs.DeletedPairLemmas.{gap_stands, last_of_pair, multiline_to_gap, multiline_to_pair}
 use Rattle.ini_edit.proofs.DeletedPairLemmas.{section_stands, with_lines}
 use Rattle.ini_edit.proofs.InPlaceLemmas.{in_place-split, joined-append}
@@ -78,44 +77,45 @@ line_cut (c ∷ cs) = elim (cases_Bool (is_line_feed c)) [
 ]
 
 -- what stays of the gap after a pair of one line
+last_of_end : {e x : Text} (c d : ℕ) → LineEnd e x → last_or c e ≡ last_or d e
+last_of_end c d LineEnd.lf = refl
+last_of_end c d LineEnd.cr_lf = refl
+last_of_end c d (LineEnd.cr n) = refl
+
 one_line_stays : (last : ℕ) (b x : Text) → BeginsWithNo is_comment_mark x
-    → StaysOf last b x ((if goes_after last (after_line_end b) [] then []
-    else line_end_at_end (front_of b (after_line_end b))) ++ after_line_end b)
+    → StaysOf last b x (left_after false last (line_end_at_end (front_of b (after_line_end b)))
+    (after_line_end b) [] ++ after_line_end b)
 one_line_stays last b x unmarked = at (line_cut b)
   where
+    left : (e c : Text) → Text
+    left e c = left_after false last e c [] ++ c
+
     nothing_kept : (goes : Bool) → b ≡ (if goes then [] else []) ++ b
     nothing_kept true = refl
     nothing_kept false = refl
 
-    at : LineCut b → StaysOf last b x ((if goes_after last (after_line_end b) [] then []
-        else line_end_at_end (front_of b (after_line_end b))) ++ after_line_end b)
+    at : LineCut b → StaysOf last b x (left (line_end_at_end (front_of b (after_line_end b))) (after_line_end b))
     at (LineCut.uncut is) =
-        subst (λ c. StaysOf last b x ((if goes_after last c [] then [] else line_end_at_end (front_of b c))
-        ++ c))
-        (sym is)
-        (subst (λ f. StaysOf last b x ((if goes_after last b [] then [] else line_end_at_end f) ++ b))
-        (sym (front_is [] b b refl))
-        (subst (StaysOf last b x) (nothing_kept (goes_after last b [])) StaysOf.all))
+        subst (λ c. StaysOf last b x (left (line_end_at_end (front_of b c)) c)) (sym is)
+        (subst (λ f. StaysOf last b x (left (line_end_at_end f) b)) (sym (front_is [] b b refl))
+        (subst (StaysOf last b x) (nothing_kept (goes_after last [] b [])) StaysOf.all))
     at (LineCut.cut e c same end one is) =
-        subst (λ d. StaysOf last b x ((if goes_after last d [] then [] else line_end_at_end (front_of b d))
-        ++ d))
-        (sym is)
-        (subst (λ f. StaysOf last b x ((if goes_after last c [] then [] else line_end_at_end f) ++ c))
-        (sym (front_is e c b (sym same)))
-        (subst (λ f. StaysOf last b x ((if goes_after last c [] then [] else f) ++ c)) (sym one)
-        (by (goes_after last c []) refl)))
+        subst (λ d. StaysOf last b x (left (line_end_at_end (front_of b d)) d)) (sym is)
+        (subst (λ f. StaysOf last b x (left (line_end_at_end f) c)) (sym (front_is e c b (sym same)))
+        (subst (λ f. StaysOf last b x (left f c)) (sym one) (by (goes_after last e c []) refl)))
       where
-        by : (goes : Bool) → goes_after last c [] ≡ goes → StaysOf last b x ((if goes then [] else e) ++ c)
+        by : (goes : Bool) → goes_after last e c [] ≡ goes → StaysOf last b x ((if goes then [] else e) ++ c)
         by true goes =
             let parts = and_parts (is_line_end last) _ goes in
-            StaysOf.after same end parts.0 (λ mark. column (begins_here c x unmarked mark)
-            (or_cases (is_line_feed last) (not (begins is_comment_mark (c ++ []))) parts.1))
+            StaysOf.after same end parts.0 (λ mark d. ap is_line_feed (last_of_end d last end)
+            ∙ alike_is last (last_or last e) (alike (begins_here c x unmarked mark)
+            (or_cases (ends_alike last (last_or last e)) (not (begins is_comment_mark (c ++ []))) parts.1)))
           where
-            column : begins is_comment_mark c ≡ true
-                → (is_line_feed last ≡ true) ⊎ (not (begins is_comment_mark (c ++ [])) ≡ true)
-                → is_column_one (last ∷ []) ≡ true
-            column mark h = elim h [
-              | inl feed ↦ feed
+            alike : begins is_comment_mark c ≡ true
+                → (ends_alike last (last_or last e) ≡ true) ⊎ (not (begins is_comment_mark (c ++ [])) ≡ true)
+                → ends_alike last (last_or last e) ≡ true
+            alike mark h = elim h [
+              | inl is ↦ is
               | inr other ↦
                   absurd (both_ways (not (begins is_comment_mark c))
                   (not_from_true (begins is_comment_mark c) mark)
@@ -126,7 +126,7 @@ one_line_stays last b x unmarked = at (line_cut b)
 -- what stays of the lines after a pair, where values are in lines of this kind
 abbrev kept_lines : (o : ParseOption) (multiline : Bool) → PairPiece → Text
 kept_lines o multiline p =
-    if multiline then blank_lines_at_end o p.stretches.trailing_lines else after_line_end p.after
+    if multiline then quiet_lines_at_end o p.stretches.trailing_lines else after_line_end p.after
 
 abbrev gap_there : (multiline : Bool) → PairPiece → Text
 gap_there multiline p = if multiline then p.after else []
@@ -138,12 +138,12 @@ own_there o multiline p =
 
 abbrev taken_by : (o : ParseOption) (multiline : Bool) → (last : ℕ) → PairPiece → Text
 taken_by o multiline last p =
-    (if goes_after last (kept_lines o multiline p) (gap_there multiline p) then []
-    else (if multiline && not (ends_in_line o (own_there o multiline p)) then []
-    else line_end_at_end (own_there o multiline p))) ++ kept_lines o multiline p
+    left_after multiline last (if multiline && not (ends_in_line o (own_there o multiline p)) then []
+    else line_end_at_end (own_there o multiline p)) (kept_lines o multiline p) (gap_there multiline p)
+    ++ kept_lines o multiline p
 
 abbrev taken : ParseOption → (last : ℕ) → PairPiece → Text
-taken o last p = (if goes_with_line_end o last p then [] else line_end_after o p) ++ lines_after o p
+taken o last p = line_end_left o last p ++ lines_after o p
 
 -- a pair with lines and a gap that stood elsewhere, which are the value's own lines or are not
 abbrev rest_by : (within : Bool) → (lines g : Text) → PairPiece → PairPiece

@@ -1,6 +1,6 @@
--- Blank lines put after the lines of a multiline value: they are its own then, and change nothing of it.
+-- Quiet lines put after the lines of a multiline value: they are its own then, and change nothing of it.
 use Rattle.std.proofs.Common.{◌≡◌, ◌≢◌, ◌∙◌, ◌≤◌, ℕ, Bool, true, false, [], ◌∷◌, ◌++◌, ap}
-use Rattle.std.proofs.Common.{◌==◌, ◌||◌, append_assoc, arith, eqb-true, length, length-append, refl, subst}
+use Rattle.std.proofs.Common.{◌==◌, ◌||◌, append_assoc, append-nil, arith, eqb-true, length, length-append, refl, subst}
 use Rattle.std.proofs.Common.{sym}
 use Rattle.std.proofs.lemmas.Bool.{both_ways, false_from_ne_true, false≢true}
 use Rattle.std.proofs.lemmas.List.Folds.{list_all-append}
@@ -8,11 +8,11 @@ use Rattle.std.specs.List.{list_all}
 use Rattle.ini_text.specs.Grammar.CharacterKinds.{BeginsWith, BeginsWithNo, carriage_return, is_blank}
 use Rattle.ini_text.specs.Grammar.CharacterKinds.{is_line_end, is_line_feed, line_feed}
 use Rattle.ini_text.specs.Grammar.Places.{OwnLines, TrailingLines}
-use Rattle.ini_text.specs.Grammar.Values.{LineEnd, MoreLines, Value}
+use Rattle.ini_text.specs.Grammar.Values.{CommentLine, LineEnd, MoreLines, Value}
 use Rattle.ini_text.specs.Grammar.WhiteSpace.{without_outer_line_feeds}
 use Rattle.ini_text.specs.declared.option.ParseOption.{ParseOption}
-use Rattle.ini_text.proofs.LawLemmas.OneAheadLemmas.{Alike, Alike-after, Alike-some, Lead-alike, Line-alike}
-use Rattle.ini_text.proofs.LawLemmas.OneAheadLemmas.{LineEnd-alike}
+use Rattle.ini_text.proofs.LawLemmas.OneAheadLemmas.{Alike, Alike-after, Alike-some, CommentLine-alike}
+use Rattle.ini_text.proofs.LawLemmas.OneAheadLemmas.{GoesOn-alike, Lead-alike, Line-alike, LineEnd-alike}
 use Rattle.ini_text.proofs.ReaderLemmas.ValueReaderLemmas.{line_end-some}
 use Rattle.ini.specs.Texts.{Text}
 use Rattle.ini_edit.proofs.GluedLemmas.{feeds_after}
@@ -39,6 +39,15 @@ blank_no_feed [] z h = absurd (false≢true (sym h))
 blank_no_feed (c ∷ w) z h =
     false_from_ne_true (is_line_feed c)
     (λ q. false≢true (subst (λ d. is_blank d ≡ true) (eqb-true c line_feed q) h))
+
+comment_some : {o : ParseOption} {s r : Text} (z : Text) → CommentLine o s r → 1 ≤ length (s ++ z)
+comment_some z (CommentLine.comment {w} {n} on some lead noted) =
+    subst (λ t. 1 ≤ length t) (sym (append_assoc w n z)) (blank_some w (n ++ z) some)
+
+comment_no_feed : {o : ParseOption} {s r : Text} (z : Text) → CommentLine o s r
+    → BeginsWithNo is_line_feed (s ++ z)
+comment_no_feed z (CommentLine.comment {w} {n} on some lead noted) =
+    subst (BeginsWithNo is_line_feed) (sym (append_assoc w n z)) (blank_no_feed w (n ++ z) some)
 
 -- the line end e and the lines t, with the lines m after them, before x; u is the value of t
 record Lengthened (o : ParseOption) (e t u m x : Text) : Type 0 where
@@ -111,13 +120,19 @@ module _ {o : ParseOption} where
         alike = λ r s. Alike.same;
       }
       at (MoreLines.empty_cr_lf more) all = stays refl (MoreLines.empty_cr_lf more) all
-      at (MoreLines.continued {w = w} {l} {e} {t} {r} b lead ln end more) all =
+      at (MoreLines.continued {w = w} {l} {e} {t} {r} goes ln end more) all =
           stays (subst (BeginsWithNo is_line_feed) (sym (append_assoc w (l ++ (e ++ t)) r))
-          (blank_no_feed w ((l ++ (e ++ t)) ++ r) b))
-          (MoreLines.continued b lead ln end more) all
-      at (MoreLines.last {w = w} {l} b lead ln) all =
+          (blank_no_feed w ((l ++ (e ++ t)) ++ r) goes.begins))
+          (MoreLines.continued goes ln end more) all
+      at (MoreLines.last {w = w} {l} goes ln) all =
           stays (subst (BeginsWithNo is_line_feed) (sym (append_assoc w l []))
-          (blank_no_feed w (l ++ []) b)) (MoreLines.last b lead ln) all
+          (blank_no_feed w (l ++ []) goes.begins)) (MoreLines.last goes ln) all
+      at (MoreLines.comment {s} {e} {t} {r} noted end more) all =
+          stays (subst (BeginsWithNo is_line_feed) (sym (append_assoc s (e ++ t) r))
+          (comment_no_feed ((e ++ t) ++ r) noted))
+          (MoreLines.comment noted end more) all
+      at (MoreLines.last_comment noted) all =
+          stays (comment_no_feed [] noted) (MoreLines.last_comment noted) all
 
   -- after a line end and lines that are there
   kept_end : {e t u m x : Text} (y : Text) → 1 ≤ length t → LineEnd e (t ++ y) → LinesLengthened o t u m x
@@ -145,11 +160,15 @@ module _ {o : ParseOption} where
   any_lengthened end (MoreLines.done blank none) on more all l = end_lengthened end on more all
   any_lengthened {y = y} end (MoreLines.empty_lf there) on more all l = kept_end y (omega arith) end l
   any_lengthened {y = y} end (MoreLines.empty_cr_lf there) on more all l = kept_end y (omega arith) end l
-  any_lengthened end (MoreLines.continued {w = w} {l = l} {e} {t} {r} b lead ln there_end there) on more all
+  any_lengthened end (MoreLines.continued {w = w} {l = l} {e} {t} {r} goes ln there_end there) on more all
       long =
-      kept_end r (blank_some w (l ++ (e ++ t)) b) end long
-  any_lengthened end (MoreLines.last {w = w} {l = l} b lead ln) on more all long =
-      kept_end [] (blank_some w l b) end long
+      kept_end r (blank_some w (l ++ (e ++ t)) goes.begins) end long
+  any_lengthened end (MoreLines.last {w = w} {l = l} goes ln) on more all long =
+      kept_end [] (blank_some w l goes.begins) end long
+  any_lengthened end (MoreLines.comment {e = e} {t} {r} noted there_end there) on more all long =
+      kept_end r (comment_some (e ++ t) noted) end long
+  any_lengthened end (MoreLines.last_comment {s} noted) on more all long =
+      kept_end [] (subst (λ t. 1 ≤ length t) (append-nil s) (comment_some [] noted)) end long
 
   module _ (on : o.enabled_indented_mutiline_value ≡ true) {m x v : Text} (more : MoreLines o m x v)
       (all : list_all is_line_feed v ≡ true) where
@@ -167,7 +186,7 @@ module _ {o : ParseOption} where
     lines_lengthened some (MoreLines.empty_cr_lf there) =
         let l = lines_lengthened some there in
         record { feeds = l.feeds; are = MoreLines.empty_cr_lf l.are; all = l.all }
-    lines_lengthened some (MoreLines.continued {w = w} {l = l} {e} {t} {r} {u} {v = g} b lead ln end there) =
+    lines_lengthened some (MoreLines.continued {w = w} {l = l} {e} {t} {r} {u} {v = g} goes ln end there) =
         let n = any_lengthened end there on more all (lines_lengthened some there) in
         record {
           feeds = n.feeds;
@@ -176,11 +195,22 @@ module _ {o : ParseOption} where
               (lines_put w l e t n.end n.lines n.whole)
               (subst (λ z. MoreLines o (w ++ (l ++ (n.end ++ n.lines))) x (line_feed ∷ z))
               (sym (append_assoc u g n.feeds))
-              (MoreLines.continued b (Lead-alike (Alike-after l (n.alike (t ++ r) (n.lines ++ x))) lead)
+              (MoreLines.continued (GoesOn-alike (Alike-after l (n.alike (t ++ r) (n.lines ++ x))) goes)
               (Line-alike (n.alike (t ++ r) (n.lines ++ x)) ln) n.is_end n.are));
           all = n.all;
         }
-    lines_lengthened some (MoreLines.last b lead ln) = absurd (some refl)
+    lines_lengthened some (MoreLines.last goes ln) = absurd (some refl)
+    lines_lengthened some (MoreLines.comment {s} {e} {t} {r} {v = g} noted end there) =
+        let n = any_lengthened end there on more all (lines_lengthened some there) in
+        record {
+          feeds = n.feeds;
+          are =
+              subst (λ z. MoreLines o z x (g ++ n.feeds))
+              (ap (λ z. s ++ z) (sym n.whole) ∙ sym (append_assoc s (e ++ t) m))
+              (MoreLines.comment (CommentLine-alike (n.alike (t ++ r) (n.lines ++ x)) noted) n.is_end n.are);
+          all = n.all;
+        }
+    lines_lengthened some (MoreLines.last_comment noted) = absurd (some refl)
 
     -- a value with these lines after its own
     pub value_lengthened : {s y u : Text} → y ≢ [] → Value o s y u → Value o (s ++ m) x u

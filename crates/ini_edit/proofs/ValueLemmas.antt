@@ -19,7 +19,7 @@ use Rattle.ini_text.proofs.PlainLemmas.PlainPairLemmas.{escaped_begins, line_end
 use Rattle.ini_text.proofs.PlainLemmas.PlainTrimLemmas.{trimmed_begins, without_line_feeds-trimmed}
 use Rattle.ini_text.specs.Grammar.Places.{OwnLines, TrailingLines}
 use Rattle.ini_edit.specs.Writable.{IsWritableValue}
-use Rattle.ini_edit.proofs.PadLemmas.{trimmed-white, white_both, white_row}
+use Rattle.ini_edit.proofs.PadLemmas.{starts_front, trimmed-white, white_both, white_row}
 use Rattle.ini_edit.proofs.WrittenLemmas.{IsReadAsWritten, read_as_written}
 
 pub closes_line_end : (c : ℕ) → is_endpoint plain_ends c ≡ true → is_line_end c ≡ true
@@ -108,6 +108,17 @@ bare_source {o} {policy} {value} writable =
       line = λ w pad r white white_pad h. written_line w pad white white_pad value r is h;
       is_trimmed = is.is_trimmed;
     }
+
+pub bare_starts : {o : ParseOption} {policy : EscapePolicy} {value : List ℕ} → IsWritableValue o policy value
+    → BeginsWithNo is_inline_white (escaped policy value)
+bare_starts {o} {policy} {value} writable = at value (read_as_written writable)
+  where
+    at : (v : List ℕ) → IsReadAsWritten o policy v → BeginsWithNo is_inline_white (escaped policy v)
+    at [] is = tt
+    at (c ∷ cs) is =
+        starts_front (escaped policy (c ∷ cs)) []
+        (escaped_begins (BeginsWithNo is_inline_white) (λ y. refl) policy c cs []
+        (λ _ y. and_left (is_whitespace c) _ (trimmed_begins (c ∷ cs) is.is_trimmed)))
 
 -- which is a value's line
 pub bare_line : {o : ParseOption} {policy : EscapePolicy} {value : List ℕ} (r : List ℕ)

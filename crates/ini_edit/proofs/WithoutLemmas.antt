@@ -1,7 +1,7 @@
 -- A section copied without the pairs of a key, pair by pair.
 use Rattle.std.proofs.Common.{◌≡◌, ◌∙◌, ◌≤◌, ◌<◌, ◌+◌, ◌-◌, ℕ, Bool, true, false, cond, List, [], ◌∷◌}
 use Rattle.std.proofs.Common.{◌++◌, None, Some, ap, append-nil, append_assoc, arith, drop, get_or}
-use Rattle.std.proofs.Common.{if◌then◌else◌, length, refl}
+use Rattle.std.proofs.Common.{length, refl}
 use Rattle.std.proofs.Common.{subst, sym}
 use Rattle.std.proofs.lemmas.Bool.{eq-eqb, ne_eqb}
 use Rattle.std.proofs.lemmas.List.{drop_all}
@@ -12,7 +12,7 @@ use Rattle.ini_text.specs.declared.option.ParseOption.{ParseOption}
 use Rattle.ini.specs.Texts.{Text, is_text}
 use Rattle.ini_edit.specs.Inside.SourceEnds.{IsWithout, at_end}
 use Rattle.ini_edit.specs.SourceEdits.{with_pairs}
-use Rattle.ini_edit.specs.SourceEditsDelete.{gap_after, goes_with_line_end, line_end_after, lines_after}
+use Rattle.ini_edit.specs.SourceEditsDelete.{gap_after, line_end_left, lines_after}
 use Rattle.ini_edit.specs.SourceEditsDelete.{pair_taken_out, rest_put, with_rest}
 use Rattle.ini_edit.specs.SourcePlaces.{last_before_pair, last_changed, nth_place, one_on}
 use Rattle.ini_edit.specs.Sources.{PairPiece, SectionPiece}
@@ -72,8 +72,8 @@ module _ (o : ParseOption) (front : ℕ) where
       ≡ pair_taken_out o front (with_pairs s (s.pairs ++ p ∷ after))
       (record { before = s.pairs; here = p; after = after })
   taken_more s p after =
-      rest_more o ((if goes_with_line_end o (last_before_pair front s (at_end s.pairs p)) p then []
-      else line_end_after o p) ++ lines_after o p) (gap_after o p) s (s.pairs ++ p ∷ after) s.pairs after
+      rest_more o (line_end_left o (last_before_pair front s (at_end s.pairs p)) p ++ lines_after o p)
+      (gap_after o p) s (s.pairs ++ p ∷ after) s.pairs after
 
   module _ (key : Text) (kept : ℕ) where
     abbrev keyed : PairPiece → Bool

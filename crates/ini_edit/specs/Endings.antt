@@ -42,10 +42,10 @@ pub data Closing (o : ParseOption) : Ending → List ℕ → Type 0 where
   by_space : o.enabled_escape ≡ false → Closing o Ending.escape (space ∷ [])
 
 -- an element's source begins with blanks, and an indented key after them
-pub record IsIndentedKey (source : List ℕ) : Type 0 where
+pub record IsIndentedKey (o : ParseOption) (source : List ℕ) : Type 0 where
   pub blanks : List ℕ
   pub key : List ℕ
   pub whole : source ≡ blanks ++ key
   pub some : BeginsWith is_blank blanks
   pub blank : list_all is_blank blanks ≡ true
-  pub begins : BeginsWith begins_indented_key key
+  pub begins : BeginsWith (begins_indented_key o) key

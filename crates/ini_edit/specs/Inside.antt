@@ -1,3 +1,4 @@
+pub mod CommentStates
 pub mod InPlace
 pub mod KeyEdges
 pub mod Lines

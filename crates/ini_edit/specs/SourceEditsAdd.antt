@@ -1,9 +1,10 @@
 -- New pairs in a text in pieces, in a section that is there.
-use Rattle.std.specs.Prelude.{Bool, true, false, not, ◌&&◌, ◌||◌, if◌then◌else◌, ℕ, List, [], ◌∷◌, ◌++◌}
-use Rattle.std.specs.Prelude.{Option, None, Some, is_none}
+use Rattle.std.specs.Prelude.{Bool, true, false, not, ◌&&◌, ◌||◌, ◌==◌, if◌then◌else◌, ℕ, List, [], ◌∷◌}
+use Rattle.std.specs.Prelude.{◌++◌, Option, None, Some, is_none}
 use Rattle.std.specs.Option.{option_map}
 use Rattle.std.specs.Option.{option_or}
-use Rattle.ini_text.specs.Grammar.CharacterKinds.{backslash, is_blank, is_line_end, space}
+use Rattle.ini_text.specs.Grammar.CharacterKinds.{backslash, carriage_return, is_blank, is_comment_mark}
+use Rattle.ini_text.specs.Grammar.CharacterKinds.{is_line_end, line_feed, space}
 use Rattle.ini_text.specs.Grammar.Positions.{is_column_one, last_or}
 use Rattle.ini_text.specs.Inside.PlainTests.{begins}
 use Rattle.ini_text.specs.Parsing.Fronts.{front_of}
@@ -44,6 +45,13 @@ module _ (o : ParseOption) where
       then with_end (ended_lines end p) [] (with_raw_value (closed_value p) p)
       else with_end [] (ended_lines end p) (with_raw_value (closed_value p) p)
 
+  -- The line end of a new pair after this one. With indented comments it is CR alone after a line that ends
+  -- so: a comment behind CR goes up to its line's end, and one in column one through the next LF.
+  abbrev pub end_after : (line_end : Text) → PairPiece → Text
+  end_after end p =
+      if o.enabled_indented_comment && last_or line_feed (line_end_after o p) == carriage_return
+      then carriage_return ∷ [] else end
+
 -- a multiline value directly before the pair would take it
 abbrev pub would_go_on : ParseOption → PairPiece → Bool
 would_go_on o p = o.enabled_indented_mutiline_value && begins is_blank p.stretches.key
@@ -60,7 +68,13 @@ pub record GapPlace : Type 0 where
   pub lines : Text
   pub after : Text
 
--- after the header's own line, and after the comments directly below it
+-- the line end of a new pair at a place: CR alone before a comment behind CR
+abbrev pub end_at : (line_end : Text) → GapPlace → Text
+end_at end place =
+    if begins is_comment_mark (place.lines ++ place.after) && not (is_column_one place.before)
+    then carriage_return ∷ [] else end
+
+-- after the header's own line, and after the comments in column one directly below it
 abbrev pub after_header : Text → GapPlace
 after_header gap = record {
   before = front_of gap (after_line gap);
@@ -71,9 +85,10 @@ after_header gap = record {
 
 abbrev pub after_header_comments : Text → GapPlace
 after_header_comments gap =
-    let rest = after_comments false (after_line gap) in
-    let comments = front_of (after_line gap) rest in
-    if is_empty comments then after_header gap
+    let line = after_line gap in
+    let rest = after_comments false line in
+    let comments = front_of line rest in
+    if is_empty comments || not (is_column_one (front_of gap line)) then after_header gap
     else record {
       before = front_of gap rest;
       starts = is_column_one comments;
@@ -139,14 +154,14 @@ module _ (o : ParseOption) (line_end : Text) (make : Maker) where
   -- Where values are multiline it isn't indented.
   abbrev pub pair_put_after : SectionPiece → Place PairPiece → SectionPiece
   pair_put_after s p =
-      let pair = make (not o.enabled_indented_mutiline_value) (line_end
+      let pair = make (not o.enabled_indented_mutiline_value) (end_after o line_end p.here
       ++ lines_after o p.here) (gap_after o p.here)
       in with_pairs s (exchanged p (with_line_ended o line_end p.here ∷ pair ∷ []))
 
   -- a new pair at this place of a section without pairs
   abbrev pub pair_put_first : SectionPiece → GapPlace → SectionPiece
   pair_put_first s place =
-      let pair = make true (line_end ++ place.lines) place.after in
+      let pair = make true (end_at line_end place ++ place.lines) place.after in
       with_after (place.before ++ (if place.starts then [] else line_end)) (with_pairs s (pair ∷ []))
 
   -- a new pair directly after the last one of a section; in one without pairs at their place, if there is

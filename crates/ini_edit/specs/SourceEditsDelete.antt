@@ -2,26 +2,42 @@
 use Rattle.std.specs.Prelude.{Bool, not, ◌&&◌, ◌||◌, if◌then◌else◌, ℕ, zero, suc, ◌-◌, List, [], ◌∷◌}
 use Rattle.std.specs.Prelude.{◌++◌}
 use Rattle.std.specs.Prelude.{Option, count_by}
-use Rattle.ini_text.specs.Grammar.CharacterKinds.{is_comment_mark, is_line_end, is_line_feed}
+use Rattle.ini_text.specs.Grammar.CharacterKinds.{carriage_return, is_comment_mark, is_line_end, space}
+use Rattle.ini_text.specs.Grammar.Positions.{last_or}
 use Rattle.ini_text.specs.Inside.PlainTests.{begins}
 use Rattle.ini_text.specs.Parsing.Fronts.{front_of}
 use Rattle.ini_text.specs.declared.option.ParseOption.{ParseOption}
 use Rattle.ini.specs.Texts.{Text, is_text}
 use Rattle.ini_edit.specs.SourceEdits.{with_pairs}
-use Rattle.ini_edit.specs.SourceLines.{after_line_end, blank_lines_at_end, ends_in_line, is_empty}
-use Rattle.ini_edit.specs.SourceLines.{line_end_at_end}
+use Rattle.ini_edit.specs.SourceLines.{after_line_end, ends_alike, ends_in_line, is_empty}
+use Rattle.ini_edit.specs.SourceLines.{line_end_at_end, quiet_lines_at_end}
 use Rattle.ini_edit.specs.SourcePlaces.{PairPlace, Place, edited_at, last_before_pair, last_before_section}
 use Rattle.ini_edit.specs.SourcePlaces.{last_changed, pair_place, section_exchanged, section_place}
 use Rattle.ini_edit.specs.SourcePlaces.{with_after}
 use Rattle.ini_edit.specs.SourcePlaces.{with_end}
 use Rattle.ini_edit.specs.Sources.{PairPiece, SectionPiece}
 
+-- After a text of this last character a pair's line end may go with the pair, before these lines and this gap:
+-- a line starts there, and a comment that follows stands behind LF, or behind CR alone, as it did.
+abbrev pub goes_after : (last : ℕ) → (line_end lines gap : Text) → Bool
+goes_after last line_end lines gap =
+    is_line_end last && (ends_alike last (last_or last line_end)
+    || not (begins is_comment_mark (lines ++ gap)))
+
+-- What stays of the line end. A multiline value goes on with no empty line that CR alone ends: a blank goes
+-- before that.
+abbrev pub left_after : (multiline : Bool) (last : ℕ) → (line_end lines gap : Text) → Text
+left_after multiline last line_end lines gap =
+    if goes_after last line_end lines gap then []
+    else (if multiline && (is_line_end last && is_text line_end (carriage_return ∷ [])) then space ∷ line_end
+    else line_end)
+
 module _ (o : ParseOption) where
-  -- What follows a pair's value: the lines that go with the pair, and their line end; the blank lines after
+  -- What follows a pair's value: the lines that go with the pair, and their line end; the quiet lines after
   -- that, which where values are in one line are the whole gap; and the gap.
   abbrev pub lines_after : PairPiece → Text
   lines_after p =
-      if o.enabled_indented_mutiline_value then blank_lines_at_end o p.stretches.trailing_lines
+      if o.enabled_indented_mutiline_value then quiet_lines_at_end o p.stretches.trailing_lines
       else after_line_end p.after
 
   abbrev pub gap_after : PairPiece → Text
@@ -51,20 +67,17 @@ module _ (o : ParseOption) where
   rest_put lines gap s (p ∷ ps) after =
       with_pairs s (last_changed (with_rest lines gap) (p ∷ ps) ++ after)
 
-  -- After a text of this last character a pair's line end may go with the pair: a line starts there, and
-  -- where what follows is a comment it is column one.
-  abbrev pub goes_with_line_end : (last : ℕ) → PairPiece → Bool
-  goes_with_line_end last p =
-      is_line_end last && (is_line_feed last || not (begins is_comment_mark (lines_after p ++ gap_after p)))
+  -- what stays of the line end of a pair that is taken out after a text of this last character
+  abbrev pub line_end_left : (last : ℕ) → PairPiece → Text
+  line_end_left last p =
+      left_after o.enabled_indented_mutiline_value last (line_end_after p) (lines_after p) (gap_after p)
 
   -- A section without the pair at the place: what stays of that is after what stood before it. Before the
   -- section stands this character.
   abbrev pub pair_taken_out : (front : ℕ) → SectionPiece → Place PairPiece → SectionPiece
   pair_taken_out front s p =
-      let goes = goes_with_line_end (last_before_pair front s p) p.here in
-      rest_put ((if goes then [] else line_end_after p.here)
-      ++ lines_after p.here) (gap_after p.here) s p.before
-      p.after
+      rest_put (line_end_left (last_before_pair front s p) p.here ++ lines_after p.here) (gap_after p.here) s
+      p.before p.after
 
   abbrev pub deleted_at : PairPlace → List SectionPiece
   deleted_at p =

@@ -22,13 +22,17 @@ use Rattle.ini_edit.specs.SourcePlaces.{last_before_section}
 use Rattle.ini_edit.specs.SourcePlaces.{last_changed, last_gap, last_place, section_place, with_raw_value}
 use Rattle.ini_edit.specs.Sources.{PairPiece, SectionPiece, section_text}
 
--- What stays of a section that is taken out: of its last gap the comments directly above the next header and
--- what indents this; where there is no next one, a key that the text's end cuts short.
-abbrev pub section_rest : (is_last : Bool) → (before : ℕ) → (gap : Text) → Text
-section_rest is_last before gap =
+-- the comments directly above the header that follows a gap, and what indents this
+abbrev pub rest_before_header : (before : ℕ) → (gap : Text) → Text
+rest_before_header before gap =
     let indentation = indentation_at_end before gap in
-    if is_last then dropped_key false before gap
-    else comments_at_end before (front_of gap indentation) ++ indentation
+    comments_at_end before (front_of gap indentation) ++ indentation
+
+-- What stays of the last gap of a section that is taken out: what stands directly above the next header, or,
+-- where there is none, a key that the text's end cuts short.
+abbrev pub section_rest : ParseOption → (is_last : Bool) → (before : ℕ) → (gap : Text) → Text
+section_rest o is_last before gap =
+    if is_last then dropped_key o before gap else rest_before_header before gap
 
 -- A section before one that is taken out: its last gap loses the blanks that indented that one's header, and
 -- takes in what stays, after a line end where no line starts there, or a comment is to stand in column one.
@@ -55,7 +59,7 @@ abbrev pub section_deleted_after : ParseOption → Place SectionPiece → (befor
 section_deleted_after o s [] = s.here ∷ s.after
 section_deleted_after o s (t ∷ ts) =
     let p = last_place t ts in
-    let rest = section_rest (is_nil s.after) (last_before_gap (last_before_section s) s.here s.here.pairs)
+    let rest = section_rest o (is_nil s.after) (last_before_gap (last_before_section s) s.here s.here.pairs)
     (last_gap s.here) in
     p.before
     ++ (with_rest_of_next o (last_before_section p) p.here (line_end_before rest s.here) rest ∷ s.after)
@@ -115,12 +119,12 @@ module _ (o : ParseOption) where
 
   -- Where a new section goes, with a pair or without: what follows it of the text's last gap. That is a key
   -- that the text's end cuts short; where the new pair's multiline value would take that, all from the last
-  -- comment on, and there is no place where there is none.
+  -- comment in column one on, and there is no place where there is none.
   abbrev pub after_new_section : (has_pair : Bool) → (before : ℕ) → Text → Option Text
   after_new_section has_pair before gap =
-      let dropped = dropped_key false before gap in
+      let dropped = dropped_key o before gap in
       if is_empty dropped || not (has_pair && o.enabled_indented_mutiline_value) then Some dropped
-      else option_map (λ solid. solid ++ dropped) (from_last_solid false (front_of gap dropped))
+      else option_map (λ solid. solid ++ dropped) (from_last_solid before (front_of gap dropped))
 
 module _ (o : ParseOption) (policy : EscapePolicy) (line_end : Text) (name : Text) where
   -- a section of the name, without pairs or with a new one, before a gap

@@ -16,7 +16,7 @@ use Rattle.ini_text.specs.declared.write.option.LineSeparator.TheVariants.{Syste
 use Rattle.ini.specs.Texts.{Text, is_text, str_text}
 use Rattle.ini_edit.specs.NewLines.{line_end_of}
 use Rattle.ini_edit.specs.Prevailing.{leaves_line_empty, prevailing_style}
-use Rattle.ini_edit.specs.SourceEditsSections.{section_rest}
+use Rattle.ini_edit.specs.SourceEditsSections.{rest_before_header}
 use Rattle.ini_edit.specs.SourceLines.{after_blank_lines, after_blanks, blanks_at_end, is_empty}
 use Rattle.ini_edit.specs.SourcePlaces.{is_nil, last_before_gap, last_gap}
 use Rattle.ini_edit.specs.SourceWritten.{Style, option_style}
@@ -93,7 +93,7 @@ first_lines s lines = if is_none s.name then after_blank_lines lines else lines
 -- one. Before the section stands this character.
 abbrev pub above_next : (is_last : Bool) (front : ℕ) → SectionPiece → Text
 above_next is_last front s =
-    if is_last then [] else section_rest false (last_before_gap front s s.pairs) (last_gap s)
+    if is_last then [] else rest_before_header (last_before_gap front s s.pairs) (last_gap s)
 
 -- a key with spaces up to this column
 abbrev pub aligned_key : (column : ℕ) → Text → Text

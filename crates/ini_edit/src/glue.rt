@@ -28,7 +28,7 @@ pub(crate) fn text_end(text: &str, read: ParseOption) -> TextEnd
     end
 }
 
-pub(crate) fn next_end(end: TextEnd, c: char, read: ParseOption) -> TextEnd
+fn next_end(end: TextEnd, c: char, read: ParseOption) -> TextEnd
     ensures { ending_of result ≡ next_ending read (ending_of end) c }
 {
     match end {

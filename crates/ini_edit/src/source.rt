@@ -45,6 +45,7 @@ mod list;
 mod owned;
 pub(crate) mod pair;
 mod place;
+mod quiet_lines;
 mod rename;
 pub(crate) mod section;
 mod sections;

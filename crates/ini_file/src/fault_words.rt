@@ -12,7 +12,7 @@ pub fn fault_words(kind: ParseKind) -> &'static str
         ParseKind::EndOfText => "the text ends within this",
         ParseKind::BrokenEscape => "a backslash stands among the four digits after \\x",
         ParseKind::UnknownCharacter => "no character has these four digits after \\x",
-        ParseKind::InlineComment => "a comment begins only in the first column of a line",
+        ParseKind::InlineComment => "a comment begins only at the front of a line",
         ParseKind::MissingKey => "no key stands before this",
         ParseKind::CrAlone => "among the lines of a value a CR has no LF after it",
         ParseKind::HeaderEnd => "the line of a section's name doesn't end in ]",

@@ -96,6 +96,8 @@ Options, of reading and of writing:
   --brackets     brackets may stand in names of sections
   --raw-backslash
                  with --noescape a backslash is a character like any other
+  --indented-comments
+                 a comment may begin after blanks, among the lines of a value too
   --lone-lines NAME
                  a line in which no separator follows the key is refused, or runs-on
                  (where none is named): the key goes on over the lines below

@@ -47,6 +47,7 @@ pub fn kind_of(name: &str) -> Option<Kind>
         | "--indent"
         | "--brackets"
         | "--raw-backslash"
+        | "--indented-comments"
         | "--crlf" => { Some(Kind::Reading) }
         "--policy" | "--lone-lines" => Some(Kind::ReadingText),
         "--existing"

@@ -8,8 +8,8 @@ use ini_text::{LoneLine, Parser};
 use std::process::Abort;
 
 /// A text with each production of the grammar in it, where every option is on.
-pub(crate) const EACH: &'static str =
-    "; comment\n# other\r\nx=0\r[a]]\n  key = \"q\" rest\n  more\n\n  \"w\"\n\
+pub(crate) const EACH: &'static str = "; comment\n# other\r\n \t# third\r;fourth\n\
+    x=0\r[a]]\n  key = \"q\" rest\n  more\n\t; less\r\n\n  \"w\"\n\
     k\\x0041=v\\n\n\n[]\n\tz : 1\n \n[b]\n  tail";
 
 /// What it loads as.
@@ -25,6 +25,7 @@ pub(crate) fn all_on() -> ParseOption {
         enabled_preserve_key_leading_whitespace: true,
         enabled_brackets_in_section_names: true,
         enabled_raw_backslash: true,
+        enabled_indented_comment: true,
         line_without_separator: LoneLine::RunsOn,
     }
 }

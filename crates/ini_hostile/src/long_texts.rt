@@ -81,7 +81,8 @@ fn sections(rt: &(impl Abort + AllocGlobal)) -> String {
         let put = write!(
             out,
             "; comment {number}\n[section {number}]\n\tkept = {number}\nk: \"quoted\n{number}\" rest\n\
-             # other\r\nescaped=\\x0041\\\n{number}\n  more = {number}\n\n   \n[a[{number}]]\nlast=''\r\n",
+             # other\r\nescaped=\\x0041\\\n{number}\n  more = {number}\n\t; less = {number}\n\n   \n\
+             [a[{number}]]\nlast=''\r\n",
         );
         assert!(rt; put.is_ok());
     }
@@ -156,6 +157,19 @@ fn a_value_of_many_lines_is_whole(rt: HostRuntime) {
     let written = joined(&rt, "", &written, "end");
     let value = joined(&rt, "", &value, "end");
     expect_value(&rt, "lines", (&written, multiline()), &value);
+}
+
+#[test]
+fn an_indented_comment_longer_than_two_reads_gives_nothing(rt: HostRuntime) {
+    let more = repeated(&rt, "é", 75_000);
+    let note = joined(&rt, "\t;", &more, "");
+    for end in ["\n", "\r\n", "\r"] {
+        let text = joined(&rt, &note, end, "k=v");
+        expect_read(&rt, end, (&text, all_on(), false), "general: <k|v> ");
+        let text = joined(&rt, "k=a\n", &note, end);
+        let text = joined(&rt, &text, " b", "");
+        expect_read(&rt, end, (&text, all_on(), false), "general: <k|a\nb> ");
+    }
 }
 
 // Whether a character stands across the place.

@@ -27,15 +27,17 @@ fn lone_line(digit: u8) -> io::Result<LoneLine> {
 }
 
 /// How a text is read, by five flags, each `0` or `1`: escapes, quotes, multiline values, kept indentation,
-/// brackets in names. Two more may be left out: raw backslashes, and refused lines without separator.
+/// brackets in names. More of them may be left out: raw backslashes, refused lines without separator, and
+/// indented comments.
 pub(crate) fn reading_of_flags(flags: &str) -> io::Result<ParseOption> {
     let [escape, quote, multiline, indent, brackets, rest @ ..] = flags.as_bytes() else {
         return Err(invalid());
     };
-    let (raw, lone) = match rest {
-        [] => (b'0', b'0'),
-        [raw] => (*raw, b'0'),
-        [raw, lone] => (*raw, *lone),
+    let (raw, lone, comment) = match rest {
+        [] => (b'0', b'0', b'0'),
+        [raw] => (*raw, b'0', b'0'),
+        [raw, lone] => (*raw, *lone, b'0'),
+        [raw, lone, comment] => (*raw, *lone, *comment),
         _ => return Err(invalid()),
     };
     Ok(ParseOption {
@@ -45,6 +47,7 @@ pub(crate) fn reading_of_flags(flags: &str) -> io::Result<ParseOption> {
         enabled_preserve_key_leading_whitespace: flag(*indent)?,
         enabled_brackets_in_section_names: flag(*brackets)?,
         enabled_raw_backslash: flag(raw)?,
+        enabled_indented_comment: flag(comment)?,
         line_without_separator: lone_line(lone)?,
     })
 }

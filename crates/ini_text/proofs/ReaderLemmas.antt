@@ -4,6 +4,9 @@ pub mod StringReaderLemmas
 pub mod ShortPieceLemmas
 pub mod LineReaderLemmas
 pub mod RunReaderLemmas
+pub mod NoteLemmas
 pub mod ValueReaderLemmas
+pub mod LineTurnLemmas
+pub mod KeyReaderLemmas
 pub mod ElementReaderLemmas
 pub mod TriviaLemmas

@@ -5,5 +5,6 @@ pub mod WorkedRefusals
 pub mod WorkedBrackets
 pub mod WorkedBackslashes
 pub mod WorkedLoneLines
+pub mod WorkedComments
 pub mod EscapedSamples
 pub mod PlainSamples

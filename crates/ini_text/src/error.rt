@@ -16,7 +16,8 @@ pub enum ParseKind {
     BrokenEscape,
     /// The four units of `\x` spell no character.
     UnknownCharacter,
-    /// `;` or `#` stands where an item may begin, but not in column one.
+    /// `;` or `#` stands where an item may begin, but not in column one, nor, with indented comments, where a
+    /// line starts.
     InlineComment,
     /// A separator follows an empty key.
     MissingKey,

@@ -1,7 +1,10 @@
 //! The options by which a text is read. This file knows no grammar.
 ghost use Rattle.std.specs.Prelude.{◌≡◌};
+ghost use Rattle.ini_text.specs.Grammar.Keys.{begins_note};
 ghost use Rattle.ini_text.specs.Options.Backslashes.{begins_escape, is_special};
 ghost use Rattle.ini_text.specs.Options.ReadOptions.{backslash_of, default_parse_option};
+
+use crate::text::is_comment_mark;
 
 /// What becomes of a line in which no separator follows the key.
 #[derive(Clone, Copy, Debug)]
@@ -29,6 +32,9 @@ pub struct ParseOption {
     pub enabled_brackets_in_section_names: bool,
     /// Where escapes are off, a backslash is a character like any other, before LF too.
     pub enabled_raw_backslash: bool,
+    /// Where a line starts, blanks and a comment mark begin a comment, which ends before LF or CR. So it is
+    /// among the lines of a value too.
+    pub enabled_indented_comment: bool,
     /// What becomes of a line in which no separator follows the key.
     pub line_without_separator: LoneLine,
 }
@@ -41,6 +47,13 @@ impl ParseOption {
         c == '\\' && self.has_special_backslash()
     }
 
+    /// Whether the character begins an indented comment: it is a comment mark, and such comments are on.
+    pub fn begins_note(self, c: char) -> bool
+        ensures { result ≡ begins_note self c }
+    {
+        self.enabled_indented_comment && is_comment_mark(c)
+    }
+
     /// Whether a backslash takes the character after it along.
     pub(crate) fn has_special_backslash(self) -> bool
         ensures { result ≡ is_special (backslash_of self) }
@@ -49,8 +62,7 @@ impl ParseOption {
     }
 }
 
-/// Quotes and escapes are read; multiline values, kept indentation, brackets in names and
-/// raw backslashes are off; a key without separator runs on.
+/// Quotes and escapes are read; all else is off; a key without separator runs on.
 impl Default for ParseOption {
     ghost is_default = { λ o. o ≡ default_parse_option };
 
@@ -62,6 +74,7 @@ impl Default for ParseOption {
             enabled_preserve_key_leading_whitespace: false,
             enabled_brackets_in_section_names: false,
             enabled_raw_backslash: false,
+            enabled_indented_comment: false,
             line_without_separator: LoneLine::RunsOn,
         }
     }

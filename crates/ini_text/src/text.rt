@@ -7,6 +7,7 @@ ghost use Rattle.ini_text.specs.Grammar.CharacterKinds.{line_feed, is_line_end, 
 ghost use Rattle.ini_text.specs.Grammar.CharacterKinds.{is_blank, is_comment_mark};
 ghost use Rattle.ini_text.specs.Grammar.Positions.{last_or, starts_line, is_column_one};
 ghost use Rattle.ini_text.specs.Parsing.Fronts.{IsRest, front_of};
+ghost use Rattle.ini_text.specs.Inside.ValueReader.{is_line_part};
 ghost use Rattle.ini_text.specs.Inside.Scans.{begins_white, is_in, is_visible, skipped, trimmed_at};
 ghost use Rattle.ini_text.specs.Parsing.Items.{string_text};
 
@@ -115,6 +116,15 @@ pub(crate) fn skip_line(text: &str) -> &str
 {
     let line_feed = Three(b'\n', b'\n', b'\n');
     let (_, rest) = text.split_at(run_before(text.as_bytes(), &line_feed));
+    rest
+}
+
+/// What follows the characters of a line, from its line end on.
+pub(crate) fn skip_note(text: &str) -> &str
+    ensures { chars result.now ≡ skipped is_line_part (chars text.now) }
+{
+    let line_ends = Three(b'\n', b'\r', b'\r');
+    let (_, rest) = text.split_at(run_before(text.as_bytes(), &line_ends));
     rest
 }
 

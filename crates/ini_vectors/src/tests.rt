@@ -5,6 +5,7 @@ mod calls;
 mod differences;
 mod edits;
 mod files;
+mod indented_comments;
 mod large;
 mod layers;
 mod layouts;

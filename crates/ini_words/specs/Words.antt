@@ -54,6 +54,8 @@ with_switch word o =
     then Some (with_reading o (record o.reading { enabled_brackets_in_section_names = true }))
     else if bytes_eq word (codes "--raw-backslash")
     then Some (with_reading o (record o.reading { enabled_raw_backslash = true }))
+    else if bytes_eq word (codes "--indented-comments")
+    then Some (with_reading o (record o.reading { enabled_indented_comment = true }))
     else if bytes_eq word (codes "--crlf")
     then Some (record o { line_separator = CRLF })
     else None

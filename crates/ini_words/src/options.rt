@@ -91,6 +91,7 @@ impl Options {
             "--indent" => options.reading.enabled_preserve_key_leading_whitespace = true,
             "--brackets" => options.reading.enabled_brackets_in_section_names = true,
             "--raw-backslash" => options.reading.enabled_raw_backslash = true,
+            "--indented-comments" => options.reading.enabled_indented_comment = true,
             "--crlf" => options.line_separator = LineSeparator::CRLF,
             _ => return None,
         }

@@ -4,7 +4,7 @@ use Rattle.std.specs.Char.{is_whitespace}
 use Rattle.ini_text.specs.Grammar.CharacterKinds.{backslash, is_blank, line_feed}
 use Rattle.ini_text.specs.declared.option.ParseOption.{ParseOption}
 use Rattle.ini.specs.Texts.{Text}
-use Rattle.ini_check.specs.Traps.Keys.{begins_like_comment, is_meant}
+use Rattle.ini_check.specs.Traps.Keys.{begins_like_comment, is_meant, is_unmeant}
 use Rattle.ini_check.specs.Traps.LexicalStates.{next_state}
 use Rattle.ini_check.specs.Traps.Lines.{is_line_taken, joins_lines}
 use Rattle.ini_check.specs.Traps.LostLines.{swallows_line}
@@ -54,6 +54,14 @@ with_escapes_doubled in_name escaped (c ∷ cs) =
     if escaped && not (is_meant in_name c || is_line_taken (c ∷ cs))
     then backslash ∷ c ∷ with_escapes_doubled in_name false cs
     else c ∷ with_escapes_doubled in_name (c == backslash && not escaped) cs
+
+-- the same in a raw value
+abbrev pub with_value_escapes_doubled : ParseOption → LexicalState → Text → Text
+with_value_escapes_doubled o state [] = []
+with_value_escapes_doubled o state (c ∷ cs) =
+    if is_unmeant state (c ∷ cs)
+    then backslash ∷ c ∷ with_value_escapes_doubled o (next_state o state c) cs
+    else c ∷ with_value_escapes_doubled o (next_state o state c) cs
 
 -- after the first CR of a comment that is a trap LF is put in
 abbrev pub with_line_ended : Text → Text

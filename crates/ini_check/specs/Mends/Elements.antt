@@ -12,6 +12,7 @@ use Rattle.ini_check.specs.Traps.LostLines.{begins_with_mark}
 use Rattle.ini_check.specs.Traps.Values.{space_of, value_of}
 use Rattle.ini_check.specs.Mends.Characters.{closed, space, with_comments_moved, with_escapes_doubled}
 use Rattle.ini_check.specs.Mends.Characters.{with_line_ended, with_lines_parted, with_quote_closed}
+use Rattle.ini_check.specs.Mends.Characters.{with_value_escapes_doubled}
 use Rattle.ini_check.specs.declared.lexical.LexicalState.TheVariants.{Front}
 use Rattle.ini_check.specs.declared.warning.Trap.{Trap}
 use Rattle.ini_check.specs.declared.warning.Trap.TheVariants as traps
@@ -46,7 +47,7 @@ mended_value o traps.UnclosedQuote value = with_quote_closed o Front value
 mended_value o traps.JoinedLine value =
     with_lines_parted (if o.enabled_escape then backslash else space) o Front value
 mended_value o traps.Escape value =
-    if o.enabled_escape then with_escapes_doubled false false value else value
+    if o.enabled_escape then with_value_escapes_doubled o Front value else value
 mended_value o _ value = value
 
 -- the source of a pair, of which this stands after the separator

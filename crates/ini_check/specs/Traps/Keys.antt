@@ -6,10 +6,14 @@ use Rattle.std.specs.List.{list_any}
 use Rattle.ini_text.specs.Grammar.CharacterKinds.{backslash, close_bracket, colon, equals, is_blank}
 use Rattle.ini_text.specs.Grammar.CharacterKinds.{is_comment_mark, is_line_end, is_quote_mark, is_separator}
 use Rattle.ini_text.specs.Options.Backslashes as backslashes
+use Rattle.ini_text.specs.declared.option.ParseOption.{ParseOption}
 use Rattle.ini.specs.Texts.{Text}
 use Rattle.ini.specs.Properties.{Pairs, first_value}
+use Rattle.ini_check.specs.Traps.LexicalStates.{is_escaped, next_state}
 use Rattle.ini_check.specs.Traps.Lines.{is_line_taken}
 use Rattle.ini_check.specs.Traps.Values.{value_of}
+use Rattle.ini_check.specs.declared.lexical.LexicalState.{LexicalState}
+use Rattle.ini_check.specs.declared.lexical.LexicalState.TheVariants.{Front}
 
 -- a line end stands in it
 abbrev pub has_line_end : Text → Bool
@@ -57,6 +61,19 @@ begins_escape in_name escaped (c ∷ cs) =
 -- the same where escapes are read
 abbrev pub has_escape : Bool → Bool → Text → Bool
 has_escape escapes in_name text = escapes && begins_escape in_name false text
+
+-- the same of a raw value, after this state: a character stands after a backslash that isn't meant before it
+abbrev pub is_unmeant : LexicalState → Text → Bool
+is_unmeant state [] = false
+is_unmeant state (c ∷ cs) = is_escaped state && not (is_meant false c || is_line_taken (c ∷ cs))
+
+abbrev pub begins_value_escape : ParseOption → LexicalState → Text → Bool
+begins_value_escape o state [] = false
+begins_value_escape o state (c ∷ cs) =
+    is_unmeant state (c ∷ cs) || begins_value_escape o (next_state o state c) cs
+
+abbrev pub has_value_escape : ParseOption → Text → Bool
+has_value_escape o value = o.enabled_escape && begins_value_escape o Front value
 
 -- the same of a key that is no comment
 abbrev pub has_key_escape : Bool → Text → Bool

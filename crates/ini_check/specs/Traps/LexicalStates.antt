@@ -1,15 +1,16 @@
--- Where a character of a raw value stands: in quotes, after them, in the plain part, or after a backslash that
--- takes it along.
+-- Where a character of a raw value stands: in quotes, after them, in the plain part, after a backslash that
+-- takes it along, or in an indented comment.
 use Rattle.std.specs.Prelude.{◌&&◌, ◌==◌, Bool, true, false, if◌then◌else◌, ℕ}
 use Rattle.std.specs.Char.{is_whitespace}
 use Rattle.ini_text.specs.Grammar.CharacterKinds.{is_line_end, is_quote_mark}
+use Rattle.ini_text.specs.Grammar.Keys.{begins_note}
 use Rattle.ini_text.specs.Options.Backslashes.{begins_escape}
 use Rattle.ini_text.specs.Options.ReadOptions.{backslash_of}
 use Rattle.ini_text.specs.declared.option.ParseOption.{ParseOption}
 use Rattle.ini_check.specs.declared.lexical.LexicalState.{LexicalState}
-use Rattle.ini_check.specs.declared.lexical.LexicalState.TheVariants.{AfterQuote, Front, LineFront, Plain}
-use Rattle.ini_check.specs.declared.lexical.LexicalState.TheVariants.{PlainEscape, Quoted, QuotedEscape}
-use Rattle.ini_check.specs.declared.lexical.LexicalState.TheVariants.{Trailing}
+use Rattle.ini_check.specs.declared.lexical.LexicalState.TheVariants.{AfterQuote, Front, LineFront, Note}
+use Rattle.ini_check.specs.declared.lexical.LexicalState.TheVariants.{Plain, PlainEscape, Quoted}
+use Rattle.ini_check.specs.declared.lexical.LexicalState.TheVariants.{QuotedEscape, Trailing}
 
 -- a quote's mark opens quotes at a line's front, and right after a quoted part
 abbrev pub may_open : LexicalState → Bool
@@ -18,12 +19,25 @@ may_open LineFront = true
 may_open AfterQuote = true
 may_open _ = false
 
--- neither in quotes nor after such a backslash
+-- neither in quotes nor in a comment, nor after such a backslash
 abbrev pub is_outside : LexicalState → Bool
 is_outside (Quoted mark) = false
 is_outside (QuotedEscape mark) = false
 is_outside PlainEscape = false
+is_outside Note = false
 is_outside _ = true
+
+-- after such a backslash
+abbrev pub is_escaped : LexicalState → Bool
+is_escaped (QuotedEscape mark) = true
+is_escaped PlainEscape = true
+is_escaped _ = false
+
+-- the character is part of a comment, or ends its line: at the front of a later line a mark begins one
+abbrev pub is_noted : ParseOption → LexicalState → ℕ → Bool
+is_noted o Note c = true
+is_noted o LineFront c = begins_note o c
+is_noted o _ c = false
 
 -- after white space outside quotes
 abbrev pub after_white : LexicalState → LexicalState
@@ -36,6 +50,7 @@ after_white _ = Plain
 abbrev pub after_outside : ParseOption → LexicalState → ℕ → LexicalState
 after_outside o state c =
     if is_line_end c then LineFront
+    else if is_noted o state c then Note
     else if begins_escape (backslash_of o) c then PlainEscape
     else if o.enabled_quote && (may_open state && is_quote_mark c) then Quoted c
     else if is_whitespace c then after_white state
@@ -58,3 +73,4 @@ next_state o LineFront c = after_outside o LineFront c
 next_state o AfterQuote c = after_outside o AfterQuote c
 next_state o Trailing c = after_outside o Trailing c
 next_state o Plain c = after_outside o Plain c
+next_state o Note c = after_outside o Note c

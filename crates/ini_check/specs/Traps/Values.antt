@@ -5,7 +5,7 @@ use Rattle.ini_text.specs.Grammar.CharacterKinds.{hash, is_blank, is_comment_mar
 use Rattle.ini_text.specs.Grammar.CharacterKinds.{is_line_end, semicolon}
 use Rattle.ini_text.specs.declared.option.ParseOption.{ParseOption}
 use Rattle.ini.specs.Texts.{Text}
-use Rattle.ini_check.specs.Traps.LexicalStates.{is_outside, next_state}
+use Rattle.ini_check.specs.Traps.LexicalStates.{is_noted, is_outside, next_state}
 use Rattle.ini_check.specs.declared.lexical.LexicalState.{LexicalState}
 use Rattle.ini_check.specs.declared.lexical.LexicalState.TheVariants.{Front}
 
@@ -24,12 +24,12 @@ abbrev pub first_line : Text → Text
 first_line [] = []
 first_line (c ∷ cs) = if is_line_end c then [] else c ∷ first_line cs
 
--- a comment's mark stands after white space and outside quotes; whether the text stands after white space,
--- `white` says
+-- a comment's mark stands after white space, outside quotes, and begins no comment; whether the text stands
+-- after white space, `white` says
 abbrev pub has_mark_after_white : ParseOption → LexicalState → Bool → Text → Bool
 has_mark_after_white o state white [] = false
 has_mark_after_white o state white (c ∷ cs) =
-    (white && (is_outside state && is_comment_mark c))
+    (white && (is_outside state && (is_comment_mark c && not (is_noted o state c))))
     || has_mark_after_white o (next_state o state c) (is_whitespace c) cs
 
 abbrev pub is_empty_or_white_first : Text → Bool
@@ -54,12 +54,17 @@ abbrev pub has_odd_front : Text → Bool
 has_odd_front [] = false
 has_odd_front (c ∷ cs) = is_inline_white c && (is_odd_white c || has_odd_front cs)
 
--- such white space stands in the white space at the end; `odd` says whether some stands right before the
--- text, with white space alone between
-abbrev pub has_odd_end : Bool → Text → Bool
-has_odd_end odd [] = odd
-has_odd_end odd (c ∷ cs) = has_odd_end (is_whitespace c && (odd || is_odd_white c)) cs
+-- after a character, such white space stands right before, with white space and comments alone between;
+-- `odd` says whether it does before the character
+abbrev pub goes_on_odd : ParseOption → LexicalState → Bool → ℕ → Bool
+goes_on_odd o state odd c =
+    if is_noted o state c then odd else (is_whitespace c && (odd || is_odd_white c))
+
+-- such white space stands in the white space at the end of a raw value
+abbrev pub has_odd_end : ParseOption → LexicalState → Bool → Text → Bool
+has_odd_end o state odd [] = odd
+has_odd_end o state odd (c ∷ cs) = has_odd_end o (next_state o state c) (goes_on_odd o state odd c) cs
 
 -- such white space stands around the value
-abbrev pub has_odd_space : Text → Bool
-has_odd_space source = has_odd_front source || has_odd_end false source
+abbrev pub has_odd_space : ParseOption → Text → Bool
+has_odd_space o source = has_odd_front source || has_odd_end o Front false (value_of source)

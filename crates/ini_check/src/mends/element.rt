@@ -15,7 +15,7 @@ use crate::lower::push;
 use crate::mends::characters::{
     push_closed, push_comments_moved, push_escapes_doubled, push_line_ended, push_text,
 };
-use crate::mends::values::{push_lines_parted, push_quote_closed};
+use crate::mends::values::{push_lines_parted, push_quote_closed, push_value_escapes_doubled};
 use crate::trap::keys::{comment_runs_on, has_key_escape, has_line_end, mark_begins_key};
 use crate::trap::lost_lines::begins_with_mark;
 use crate::trap::values::{is_inline_white, value_of};
@@ -128,7 +128,7 @@ fn push_value(
         Trap::JoinedLine => {
             push_lines_parted(out, part_of_lines(read.enabled_escape), read, value)
         }
-        Trap::Escape if read.enabled_escape => push_escapes_doubled(out, false, value),
+        Trap::Escape if read.enabled_escape => push_value_escapes_doubled(out, read, value),
         _ => push_text(out, value),
     }
 }

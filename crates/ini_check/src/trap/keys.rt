@@ -1,15 +1,17 @@
 //! Traps of a pair's key and of its separator.
 ghost use Rattle.std.specs.Prelude.{◌≡◌, chars, false};
 ghost use Rattle.ini_check.specs.Traps.Keys.{begins_escape, begins_like_comment, begins_quoted};
-ghost use Rattle.ini_check.specs.Traps.Keys.{begins_white};
+ghost use Rattle.ini_check.specs.Traps.Keys.{begins_value_escape, begins_white};
 ghost use Rattle.ini_check.specs.Traps.Keys.{colon_separates, comment_runs_on, has_equals, has_escape};
-ghost use Rattle.ini_check.specs.Traps.Keys.{has_key_escape, has_line_end, is_empty, is_meant, is_unplain};
-ghost use Rattle.ini_check.specs.Traps.Keys.{mark_begins_key, runs_on};
+ghost use Rattle.ini_check.specs.Traps.Keys.{has_key_escape, has_line_end, has_value_escape, is_empty};
+ghost use Rattle.ini_check.specs.Traps.Keys.{is_meant, is_unmeant, is_unplain, mark_begins_key, runs_on};
+ghost use Rattle.ini_check.specs.declared.lexical.LexicalState.TheVariants.{Front};
 
+use crate::lexical::LexicalState;
 use crate::trap::lines::is_line_taken;
 use crate::trap::quotes::is_quote_mark;
 use crate::trap::values::value_of;
-use ini_text::{is_blank, is_comment_mark, is_line_end, split_first};
+use ini_text::{ParseOption, is_blank, is_comment_mark, is_line_end, split_first};
 
 /// Whether a line end stands in a text.
 pub(crate) fn has_line_end(source: &str) -> bool
@@ -88,6 +90,39 @@ fn begins_escape(in_name: bool, source: &str) -> bool
         rest = after;
     }
     false
+}
+
+/// Whether a backslash begins an escape in a raw value that may not be meant, where escapes are read.
+pub(crate) fn has_value_escape(read: ParseOption, value: &str) -> bool
+    ensures { result ≡ has_value_escape read (chars value.now) }
+{
+    read.enabled_escape && begins_value_escape(read, value)
+}
+
+// Whether a backslash begins an escape in a raw value that may not be meant.
+fn begins_value_escape(read: ParseOption, value: &str) -> bool
+    ensures { result ≡ begins_value_escape read Front (chars value.now) }
+{
+    let mut state = LexicalState::Front;
+    let mut rest = value;
+    'characters: while let Some((c, after)) = split_first(rest) {
+        if is_unmeant(state, rest) {
+            return true;
+        }
+        state = state.next(read, c);
+        rest = after;
+    }
+    false
+}
+
+/// Whether a character of a raw value stands after a backslash that may not be meant before it.
+pub(crate) fn is_unmeant(state: LexicalState, text: &str) -> bool
+    ensures { result ≡ is_unmeant state (chars text.now) }
+{
+    match split_first(text) {
+        Some((c, _)) => state.is_escaped() && !(is_meant(false, c) || is_line_taken(text)),
+        None => false,
+    }
 }
 
 /// Whether a backslash before the character is meant.

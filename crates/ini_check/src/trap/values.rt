@@ -1,8 +1,8 @@
 //! Traps of a value as a whole.
-ghost use Rattle.std.specs.Prelude.{◌≡◌, ◌&&◌, ◌||◌, chars, false};
-ghost use Rattle.std.specs.Char.{is_whitespace};
+ghost use Rattle.std.specs.Prelude.{◌≡◌, chars, false};
 ghost use Rattle.ini_text.specs.Grammar.CharacterKinds.{is_inline_white};
-ghost use Rattle.ini_check.specs.Traps.Values.{begins_like_note, has_comment_mark, has_mark_after_white};
+ghost use Rattle.ini_check.specs.Traps.Values.{begins_like_note, goes_on_odd, has_comment_mark};
+ghost use Rattle.ini_check.specs.Traps.Values.{has_mark_after_white};
 ghost use Rattle.ini_check.specs.Traps.Values.{has_odd_end, has_odd_front, has_odd_space};
 ghost use Rattle.ini_check.specs.Traps.Values.{is_empty_or_white_first, is_odd_white, value_of};
 ghost use Rattle.ini_check.specs.declared.lexical.LexicalState.TheVariants.{Front};
@@ -31,7 +31,7 @@ pub(crate) fn has_comment_mark(read: ParseOption, value: &str) -> bool
     begins_like_note(value) || has_mark_after_white(read, value)
 }
 
-// Whether a comment mark stands after white space and outside quotes.
+// Whether a comment mark stands after white space, outside quotes, and begins no comment.
 fn has_mark_after_white(read: ParseOption, value: &str) -> bool
     ensures { result ≡ has_mark_after_white read Front false (chars value.now) }
 {
@@ -39,7 +39,7 @@ fn has_mark_after_white(read: ParseOption, value: &str) -> bool
     let mut white = false;
     let mut rest = value;
     'characters: while let Some((c, after)) = split_first(rest) {
-        if white && state.is_outside() && is_comment_mark(c) {
+        if white && state.is_outside() && is_comment_mark(c) && !state.is_noted(read, c) {
             return true;
         }
         white = c.is_whitespace();
@@ -70,10 +70,10 @@ fn is_empty_or_white_first(text: &str) -> bool
 
 /// Whether white space stands around a value that is neither a blank nor a line end; of what stands after the
 /// separator.
-pub(crate) fn has_odd_space(source: &str) -> bool
-    ensures { result ≡ has_odd_space (chars source.now) }
+pub(crate) fn has_odd_space(read: ParseOption, source: &str) -> bool
+    ensures { result ≡ has_odd_space read (chars source.now) }
 {
-    has_odd_front(source) || has_odd_end(source)
+    has_odd_front(source) || has_odd_end(read, value_of(source))
 }
 
 // Whether such white space stands in the white space at a text's front.
@@ -93,24 +93,30 @@ fn has_odd_front(text: &str) -> bool
     false
 }
 
-// Whether such white space stands in the white space at a text's end.
-fn has_odd_end(text: &str) -> bool
-    ensures { result ≡ has_odd_end false (chars text.now) }
+// Whether such white space stands in the white space at a raw value's end.
+fn has_odd_end(read: ParseOption, value: &str) -> bool
+    ensures { result ≡ has_odd_end read Front false (chars value.now) }
 {
     let mut odd = false;
-    let mut rest = text;
+    let mut state = LexicalState::Front;
+    let mut rest = value;
     'characters: while let Some((c, after)) = split_first(rest) {
-        odd = goes_on_odd(odd, c);
+        odd = goes_on_odd(read, state, odd, c);
+        state = state.next(read, c);
         rest = after;
     }
     odd
 }
 
-// Whether white space at an end that goes on with a character has such white space.
-fn goes_on_odd(odd: bool, c: char) -> bool
-    ensures { result ≡ (is_whitespace c && (odd || is_odd_white c)) }
+// Whether white space at an end, with comments in it, that goes on with a character has such white space.
+fn goes_on_odd(read: ParseOption, state: LexicalState, odd: bool, c: char) -> bool
+    ensures { result ≡ goes_on_odd read state odd c }
 {
-    c.is_whitespace() && (odd || is_odd_white(c))
+    if state.is_noted(read, c) {
+        odd
+    } else {
+        c.is_whitespace() && (odd || is_odd_white(c))
+    }
 }
 
 fn is_odd_white(c: char) -> bool

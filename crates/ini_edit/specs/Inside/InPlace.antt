@@ -2,6 +2,7 @@
 use Rattle.std.specs.Prelude.{ℕ, List, [], ◌∷◌, ◌++◌}
 use Rattle.ini_text.specs.Grammar.Positions.{last_or}
 use Rattle.ini_text.specs.Laws.PieceLaws.{Agree, BeginAlike}
+use Rattle.ini_text.specs.declared.option.ParseOption.{ParseOption}
 use Rattle.ini.specs.Texts.{Text}
 use Rattle.ini_edit.specs.Sources.{joined}
 
@@ -15,7 +16,7 @@ module _ {A : Type 0} (source : A → Text) where
           → AreInPlace (last_or c (source x)) xs r → AreInPlace c (x ∷ xs) r
 
     -- where one stands depends on the character before it and the first one after it alone
-    pub record IsLocal : Type 0 where
-      pub front : (c d : ℕ) (x : A) (r : Text) → Agree (c ∷ []) (d ∷ []) (source x) → stands c x r
+    pub record IsLocal (o : ParseOption) : Type 0 where
+      pub front : (c d : ℕ) (x : A) (r : Text) → Agree o (c ∷ []) (d ∷ []) (source x) → stands c x r
           → stands d x r
       pub follows : (c : ℕ) (x : A) (r other : Text) → BeginAlike r other → stands c x r → stands c x other

@@ -1,5 +1,5 @@
 -- The last parts of a pair or a header of a text in pieces, once they are written anew.
-use Rattle.std.specs.Prelude.{◌≡◌, ◌≢◌, Bool, true, false, not, ◌&&◌, ◌||◌, if◌then◌else◌, ℕ, List, [], ◌∷◌}
+use Rattle.std.specs.Prelude.{◌≡◌, ◌≢◌, Bool, true, false, not, ◌&&◌, if◌then◌else◌, ℕ, List, [], ◌∷◌}
 use Rattle.std.specs.Prelude.{◌++◌, take, drop, length, chars, String, Option, None, Some, alloc_error, ⊤}
 use Rattle.std.specs.declared.alloc.Global.{Global}
 use Rattle.std.specs.Option.{option_or, unwrap_or, option_map}
@@ -8,8 +8,7 @@ use Rattle.ini_text.specs.declared.parser.placed.Content.{Content}
 use Rattle.ini_text.specs.declared.parser.placed.PlacedElement.{PlacedElement}
 use Rattle.ini_text.specs.declared.option.ParseOption.{ParseOption}
 use Rattle.ini_text.specs.declared.write.policy.EscapePolicy.{EscapePolicy}
-use Rattle.ini_text.specs.Grammar.CharacterKinds.{is_comment_mark, is_line_end, is_line_feed, line_feed}
-use Rattle.ini_text.specs.Inside.PlainTests.{begins}
+use Rattle.ini_text.specs.Grammar.CharacterKinds.{is_line_end, line_feed}
 use Rattle.ini_text.specs.declared.write.option.WriteOption.{WriteOption}
 use Rattle.ini_text.specs.Laws.Plain.{IsPlainName}
 use Rattle.ini_text.specs.declared.error.Error.TheVariants.{Memory}
@@ -136,11 +135,6 @@ pub data IsWithout (o : ParseOption) (front : ℕ) (key : Text) (kept : ℕ) : S
 -- a place after all of a list
 abbrev pub at_end : {A : Type 0} → List A → A → Place A
 at_end xs x = record { before = xs; here = x; after = [] }
-
--- after a text of this last character a pair's line end may go, before these lines and this gap
-abbrev pub goes_after : (last : ℕ) → (lines gap : Text) → Bool
-goes_after last lines gap =
-    is_line_end last && (is_line_feed last || not (begins is_comment_mark (lines ++ gap)))
 
 -- the pair at the place of a section changed
 abbrev pub pair_changed_in : (PairPiece → PairPiece) → SectionPiece → Place PairPiece → SectionPiece

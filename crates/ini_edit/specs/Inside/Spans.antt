@@ -1,7 +1,7 @@
 -- The spans of a text in pieces, each in its place: headers, pairs, and what stands between these.
 use Rattle.std.specs.Prelude.{◌≡◌, ◌≢◌, ℕ, true, List, [], ◌∷◌, ◌++◌, Option, None, Some, is_some}
 use Rattle.std.specs.List.{list_all}
-use Rattle.ini_text.specs.Grammar.CharacterKinds.{line_feed, is_inline_white, is_separator}
+use Rattle.ini_text.specs.Grammar.CharacterKinds.{line_feed, is_inline_white, is_separator, BeginsWithNo}
 use Rattle.ini_text.specs.Grammar.Elements.{Header, Element}
 use Rattle.ini_text.specs.Grammar.Keys.{KeyFront}
 use Rattle.ini_text.specs.Grammar.Pieces.{ArePieces, Piece, pieces_items, pieces_text}
@@ -33,6 +33,7 @@ module _ (o : ParseOption) where
     pub separates : is_separator p.separator ≡ true
     pub gives : Value o (value_source p) r value
     pub white_before : list_all is_inline_white p.space_before ≡ true
+    pub starts : BeginsWithNo is_inline_white p.raw_value
     pub white_after : list_all is_inline_white p.space_after ≡ true
     pub are_trailing : TrailingLines o p.trailing_lines r
     -- the raw value, and white space after it, are all of the value's own lines

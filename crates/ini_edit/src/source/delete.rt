@@ -16,7 +16,8 @@ impl<'a> Source<'a> {
     /// the general section's.
     ///
     /// The pair goes with its lines and its line end. The line end stays where no line starts before the
-    /// pair, and where a comment follows that must stay in column one. Every other byte stays.
+    /// pair, and where a comment follows that must stay behind it; a blank goes before a CR that then stands
+    /// behind a multiline value. Every other byte stays.
     ///
     /// # Errors
     ///

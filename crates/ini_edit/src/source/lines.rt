@@ -1,23 +1,23 @@
 //! Lines of what stands between items: where one ends, comments, blank lines, what indents a header, and a
 //! dropped tail. This file knows kinds of characters, and no piece.
-ghost use Rattle.std.specs.Prelude.{◌≡◌, ◌↔◌, ◌++◌, ◌&&◌, [], ◌∷◌, false, true, not, chars};
+ghost use Rattle.std.specs.Prelude.{◌≡◌, ◌↔◌, ◌++◌, ◌&&◌, [], ◌∷◌, false, true, chars};
 ghost use Rattle.std.specs.Option.{option_map};
 ghost use Rattle.ini.specs.Texts.{Text, str_text};
 ghost use Rattle.ini_text.specs.Grammar.CharacterKinds.{is_blank, is_line_end, is_line_feed};
 ghost use Rattle.ini_text.specs.Grammar.Positions.{last_or};
 ghost use Rattle.ini_text.specs.Inside.PlainTests.{begins};
 ghost use Rattle.ini_text.specs.Parsing.Fronts.{front_of};
-ghost use Rattle.ini_edit.specs.Inside.Lines.{ending_of};
+ghost use Rattle.ini_edit.specs.Inside.CommentStates.{comment_state_of};
 ghost use Rattle.ini_edit.specs.Inside.SourceSearches.{IsSearched};
 ghost use Rattle.ini_edit.specs.SourceEditsComments.{IsCommentText};
 ghost use Rattle.ini_edit.specs.SourceLines.{after_blank_lines, after_blanks, after_comment, after_comments};
 ghost use Rattle.ini_edit.specs.SourceLines.{after_line, after_line_end, after_line_feed};
-ghost use Rattle.ini_edit.specs.SourceLines.{blank_lines_at_end};
-ghost use Rattle.ini_edit.specs.SourceLines.{blanks_at_end, comments_at_end, dropped_key, ends_in_line};
+ghost use Rattle.ini_edit.specs.SourceLines.{begins_solid};
+ghost use Rattle.ini_edit.specs.SourceLines.{blanks_at_end, comments_at_end, dropped_key};
 ghost use Rattle.ini_edit.specs.SourceLines.{from_last_solid, has_lone_return, indentation_at_end};
-ghost use Rattle.ini_edit.specs.SourceLines.{is_empty, is_in_comment, line_end_at_end, next_line_end};
+ghost use Rattle.ini_edit.specs.SourceLines.{is_empty, is_outside, line_end_at_end, may_begin_key};
+ghost use Rattle.ini_edit.specs.SourceLines.{next_comment};
 
-use crate::glue::{TextEnd, next_end};
 use crate::text::begins_with_comment;
 use ini_text::{
     LineSeparator, ParseOption, front_before, is_blank, is_comment_mark, is_line_end, split_first,
@@ -181,54 +181,6 @@ pub(crate) fn blanks_at_end(text: &str) -> &str
     blanks
 }
 
-/// The blank lines with which the lines after a value end: blanks and line ends alone, from a line's start
-/// on.
-pub(crate) fn blank_lines_at_end(text: &str, read: ParseOption) -> &str
-    ensures { chars result.now ≡ blank_lines_at_end read (chars text.now) }
-{
-    let mut rest = text;
-    let mut lines = text;
-    let mut end = TextEnd::Inside;
-    let mut is_blank_line = false;
-    'characters: while let Some((c, after)) = split_first(rest) {
-        if !is_blank(c) && !is_line_end(c) {
-            is_blank_line = false;
-        } else if !is_blank_line && matches!(end, TextEnd::Line) {
-            lines = rest;
-            is_blank_line = true;
-        }
-        end = next_line_end(end, c, after, read);
-        rest = after;
-    }
-    if is_blank_line {
-        return lines;
-    }
-    rest
-}
-
-/// Whether a line ends where a value's text ends, of which no backslash takes the line end.
-pub(crate) fn ends_line(text: &str, read: ParseOption) -> bool
-    ensures { result ≡ ends_in_line read (chars text.now) }
-{
-    let mut rest = text;
-    let mut end = TextEnd::Inside;
-    'characters: while let Some((c, after)) = split_first(rest) {
-        end = next_line_end(end, c, after, read);
-        rest = after;
-    }
-    matches!(end, TextEnd::Line)
-}
-
-// How a text ends one character on, where a CR with no LF after it ends a line too.
-fn next_line_end(end: TextEnd, c: char, after: &str, read: ParseOption) -> TextEnd
-    ensures { ending_of result ≡ next_line_end read (ending_of end) c (chars after.now) }
-{
-    if c == '\r' && !matches!(end, TextEnd::Escape) && !begins_with_line_feed(after) {
-        return TextEnd::Line;
-    }
-    next_end(end, c, read)
-}
-
 /// Whether LF begins a text.
 pub(crate) fn begins_with_line_feed(text: &str) -> bool
     ensures { result ≡ begins is_line_feed (chars text.now) }
@@ -251,17 +203,17 @@ pub(crate) fn begins_with_blank(text: &str) -> bool
 
 /// Where an indented key that the text's end cuts short begins, among gaps and comments; the end where there
 /// is none.
-pub(crate) fn dropped_key(before: char, text: &str) -> &str
-    ensures { chars result.now ≡ dropped_key false before (chars text.now) }
+pub(crate) fn dropped_key(before: char, text: &str, read: ParseOption) -> &str
+    ensures { chars result.now ≡ dropped_key read before (chars text.now) }
 {
     let mut rest = text;
     let mut last = before;
-    let mut is_comment = false;
+    let mut state = CommentState::Outside;
     'characters: while let Some((c, after)) = split_first(rest) {
-        if !is_comment && is_line_end(last) && begins_indented_key(rest) {
+        if state.is_outside() && is_line_end(last) && begins_indented_key(rest, read) {
             return rest;
         }
-        is_comment = is_in_comment(is_comment, c);
+        state = state.next(last, c);
         last = c;
         rest = after;
     }
@@ -269,46 +221,79 @@ pub(crate) fn dropped_key(before: char, text: &str) -> &str
 }
 
 // Whether blanks begin a text, and a key follows them.
-fn begins_indented_key(text: &str) -> bool
+fn begins_indented_key(text: &str, read: ParseOption) -> bool
     ensures { result ≡ (begins is_blank (chars text.now)
-        && begins (λ c. not (is_line_end c)) (after_blanks (chars text.now))) }
+        && begins (may_begin_key read) (after_blanks (chars text.now))) }
 {
-    begins_with_blank(text) && begins_key(split_blanks(text).1)
-}
-
-// Whether a comment goes on after this character of it.
-fn is_in_comment(inside: bool, c: char) -> bool
-    ensures { result ≡ is_in_comment inside c }
-{
-    (inside || is_comment_mark(c)) && c != '\n'
+    begins_with_blank(text) && begins_key(split_blanks(text).1, read)
 }
 
 // Whether what follows blanks is a key.
-fn begins_key(text: &str) -> bool
-    ensures { result ≡ begins (λ c. not (is_line_end c)) (chars text.now) }
+fn begins_key(text: &str, read: ParseOption) -> bool
+    ensures { result ≡ begins (may_begin_key read) (chars text.now) }
 {
     match split_first(text) {
-        Some((c, _)) => !is_line_end(c),
+        Some((c, _)) => !is_line_end(c) && !read.begins_note(c),
         None => false,
     }
 }
 
-/// Gaps and comments from the last comment on, or from white space that is no blank: what no value goes on
-/// with. `None` where blanks and line ends are all.
-pub(crate) fn from_last_solid(text: &str) -> Option<&str>
-    ensures { option_map str_text result ≡ from_last_solid false (chars text.now) }
+// What a walk over gaps and comments is in: no comment; one in column one, which LF ends; or a note, which LF
+// or CR ends.
+#[derive(Clone, Copy, Debug)]
+enum CommentState {
+    Outside,
+    Comment,
+    Note,
+}
+
+impl CommentState {
+    fn is_outside(self) -> bool
+        ensures { result ≡ is_outside (comment_state_of self) }
+    {
+        matches!(self, CommentState::Outside)
+    }
+
+    // What it is in after this character, which stands after `last`.
+    fn next(self, last: char, c: char) -> Self
+        ensures { comment_state_of result ≡ next_comment (comment_state_of self) last c }
+    {
+        match self {
+            CommentState::Outside if !is_comment_mark(c) => CommentState::Outside,
+            CommentState::Outside if last == '\n' => CommentState::Comment,
+            CommentState::Outside => CommentState::Note,
+            CommentState::Comment if c != '\n' => CommentState::Comment,
+            CommentState::Note if !is_line_end(c) => CommentState::Note,
+            _ => CommentState::Outside,
+        }
+    }
+}
+
+/// Gaps and comments from the last comment in column one on, or from white space that is no blank: what no
+/// value goes on with. `None` where there is neither.
+pub(crate) fn from_last_solid(before: char, text: &str) -> Option<&str>
+    ensures { option_map str_text result ≡ from_last_solid before (chars text.now) }
 {
     let mut rest = text;
     let mut solid = None;
-    let mut is_comment = false;
+    let mut last = before;
+    let mut state = CommentState::Outside;
     'characters: while let Some((c, after)) = split_first(rest) {
-        if !is_comment && !is_blank(c) && !is_line_end(c) {
+        if state.is_outside() && begins_solid(last, c) {
             solid = Some(rest);
         }
-        is_comment = is_in_comment(is_comment, c);
+        state = state.next(last, c);
+        last = c;
         rest = after;
     }
     solid
+}
+
+// Whether this character, after `last`, begins such a comment, or is such white space.
+fn begins_solid(last: char, c: char) -> bool
+    ensures { result ≡ begins_solid last c }
+{
+    !is_blank(c) && !is_line_end(c) && (last == '\n' || !is_comment_mark(c))
 }
 
 /// The blanks and line ends with which a text begins, and what follows.

@@ -84,14 +84,14 @@ fn after_header(gap: &str) -> GapPlace<'_>
     }
 }
 
-// After the header's own line and the comments directly below it.
+// After the header's own line and the comments in column one directly below it.
 fn after_header_comments(gap: &str) -> GapPlace<'_>
     ensures { place_of result ≡ after_header_comments (chars gap.now) }
 {
     let header = after_header(gap);
     let after = after_comments(header.after);
     let comments = front_before(header.after, after);
-    if is_empty(comments) {
+    if is_empty(comments) || last_or('\n', header.before) != '\n' {
         return header;
     }
     GapPlace {
@@ -155,8 +155,8 @@ fn past_blank_lines<'t>(gap: &'t str, rest: &'t str) -> Option<GapPlace<'t>>
 }
 
 /// The last gap of a text, cut where a new section goes: at its end, but before an indented key that the
-/// text's end cuts short. Where a multiline value would take that key, it is before the last comment, if
-/// there is one.
+/// text's end cuts short. Where a multiline value would take that key, it is before the last comment in
+/// column one, if there is one.
 pub(crate) fn place_for_section<'t>(
     before: char,
     gap: &'t str,
@@ -167,12 +167,12 @@ pub(crate) fn place_for_section<'t>(
         (λ p. (after_new_section read has_pair before (chars gap.now) ≡ Some (chars p.1.now))
         × (chars p.0.now ≡ front_of (chars gap.now) (chars p.1.now))) }
 {
-    let dropped = dropped_key(before, gap);
+    let dropped = dropped_key(before, gap, read);
     let front = front_before(gap, dropped);
     if is_empty(dropped) || !has_pair || !read.enabled_indented_mutiline_value {
         return Some((front, dropped));
     }
-    let solid = from_last_solid(front)?;
+    let solid = from_last_solid(before, front)?;
     Some(cut_after(gap, front_before(front, solid)))
 }
 

@@ -80,7 +80,7 @@ impl<'a> Source<'a> {
         let count = self.sections.len();
         let is_last = index + 1 == count;
         let section = &self.sections[index];
-        let rest = section.rest(self.last_before(index), is_last);
+        let rest = section.rest(self.last_before(index), is_last, self.option);
         let line_end = section.line_end_before(alloc, rest.before)?;
         let front = self.last_before(before);
         self.sections[before].with_rest_of_next(alloc, front, rest.gap, line_end, self.option)

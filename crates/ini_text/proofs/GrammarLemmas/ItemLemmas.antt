@@ -2,6 +2,7 @@
 use Rattle.std.proofs.Common.{◌≡◌, ◌<◌, ◌≤◌, ℕ, List, [], ◌∷◌, ◌++◌, length, sym, ap, ◌∙◌, append_assoc, append-nil, subst, subst₂, chars, arith, length-append}
 use Rattle.ini_text.specs.Grammar.CharacterKinds.{is_blank}
 use Rattle.ini_text.specs.Grammar.Elements.{Given, Gap, Element, ElementStops}
+use Rattle.ini_text.specs.Grammar.Lines.{Note}
 use Rattle.ini_text.specs.Parsing.Fronts.{front_of, IsRest}
 use Rattle.ini_text.specs.Parsing.Parser.{memory, parse, Refuses, TellsRefusal, refusal_of, StopsPast}
 use Rattle.ini_text.specs.Inside.ItemSearch.{StopIsWithin}
@@ -40,6 +41,9 @@ pub element-some : {o : ParseOption} {b s r : List ℕ} {gives : List Given} →
 element-some (Element.gap g) = gap-some g
 element-some (Element.comment s one marks all) = omega arith
 element-some (Element.last_comment one marks all) = omega arith
+element-some (Element.indented_comment {w = w} {s = s} on i noted) =
+    omega (arith, length-append w s, BeginsWith-some is_blank w i.some)
+element-some (Element.comment_after_cr on start late (Note.note mark all closes)) = omega arith
 element-some (Element.header off str) = omega arith
 element-some (Element.bracketed_header on str i) = omega arith
 element-some (Element.pair {k = k} {s = s} {m = m} front some separates value) =

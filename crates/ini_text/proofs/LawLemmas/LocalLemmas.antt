@@ -5,6 +5,7 @@ use Rattle.ini_text.specs.Grammar.CharacterKinds.{is_blank, is_comment_mark, lin
 use Rattle.ini_text.specs.Grammar.Positions.{last_or}
 use Rattle.ini_text.specs.Grammar.Elements.{Given, Gap, Element}
 use Rattle.ini_text.specs.Grammar.Keys.{Indentation, KeyFront}
+use Rattle.ini_text.specs.Grammar.Lines.{Note}
 use Rattle.ini_text.specs.Laws.PieceLaws.{Agree, BeginAlike}
 use Rattle.ini_text.specs.declared.option.ParseOption.{ParseOption}
 use Rattle.ini_text.proofs.LawLemmas.OneAheadLemmas.{Alike, Element-alike}
@@ -13,51 +14,61 @@ begins_more : (test : ℕ → Bool) (w x : List ℕ) → BeginsWith test w → B
 begins_more test [] x h = absurd (false≢true (sym h))
 begins_more test (c ∷ w) x h = h
 
--- fronts that agree before a text agree before its front
-pub Agree-front : {b c s : List ℕ} (x : List ℕ) → Agree b c (s ++ x) → Agree b c s
-Agree-front {s} x a = record {
-  line = λ h. a.line (begins_more is_blank s x h);
-  column = λ h. a.column (begins_more is_comment_mark s x h);
-}
+module _ {o : ParseOption} where
+  -- fronts that agree before a text agree before its front
+  pub Agree-front : {b c s : List ℕ} (x : List ℕ) → Agree o b c (s ++ x) → Agree o b c s
+  Agree-front {s} x a = record {
+    line = λ h. a.line (begins_more is_blank s x h);
+    column = λ h. a.column (begins_more is_comment_mark s x h);
+    comment = λ on h. a.comment on (begins_more is_comment_mark s x h);
+  }
 
--- a front and its last character agree before any text
-pub by_last : {b s : List ℕ} → Agree b (last_or line_feed b ∷ []) s
-by_last = record { line = λ h. refl; column = λ h. refl }
+  -- a front and its last character agree before any text
+  pub by_last : {b s : List ℕ} → Agree o b (last_or line_feed b ∷ []) s
+  by_last = record { line = λ h. refl; column = λ h. refl; comment = λ on h. refl }
 
-pub by_front : {b s : List ℕ} → Agree (last_or line_feed b ∷ []) b s
-by_front = record { line = λ h. refl; column = λ h. refl }
+  pub by_front : {b s : List ℕ} → Agree o (last_or line_feed b ∷ []) b s
+  by_front = record { line = λ h. refl; column = λ h. refl; comment = λ on h. refl }
 
-module _ {b c : List ℕ} where
-  Indentation-like : {w : List ℕ} → Agree b c w → Indentation b w → Indentation c w
+-- a note begins with a mark
+Note-begins : {s r : List ℕ} → Note s r → BeginsWith is_comment_mark s
+Note-begins (Note.note mark all closes) = mark
+
+module _ {o : ParseOption} {b c : List ℕ} where
+  Indentation-like : {w : List ℕ} → Agree o b c w → Indentation b w → Indentation c w
   Indentation-like a i =
       record { at_line_start = sym (a.line i.some) ∙ i.at_line_start; some = i.some; blank = i.blank }
 
-  Gap-like : {s r : List ℕ} → Agree b c s → Gap b s r → Gap c s r
+  Gap-like : {s r : List ℕ} → Agree o b c s → Gap b s r → Gap c s r
   Gap-like a (Gap.blank_line x i e) = Gap.blank_line x (Indentation-like (Agree-front (x ∷ []) a) i) e
   Gap-like a (Gap.before_header i) = Gap.before_header (Indentation-like a i)
   Gap-like a (Gap.white h n) = Gap.white h (λ q. sym (a.line q) ∙ n q)
 
-  module _ {o : ParseOption} where
-    pub KeyFront-like : {s r v : List ℕ} → Agree b c s → KeyFront o b s r v → KeyFront o c s r v
-    KeyFront-like a (KeyFront.unindented h str) = KeyFront.unindented h str
-    KeyFront-like a (KeyFront.indented {s = s} i h str) =
-        KeyFront.indented (Indentation-like (Agree-front s a) i) h str
+  pub KeyFront-like : {s r v : List ℕ} → Agree o b c s → KeyFront o b s r v → KeyFront o c s r v
+  KeyFront-like a (KeyFront.unindented h str) = KeyFront.unindented h str
+  KeyFront-like a (KeyFront.indented {s = s} i h str) =
+      KeyFront.indented (Indentation-like (Agree-front s a) i) h str
 
-    -- after a front that agrees
-    pub Element-like : {s r : List ℕ} {gives : List Given} → Agree b c s → Element o b s r gives
-        → Element o c s r gives
-    Element-like a (Element.gap g) = Element.gap (Gap-like a g)
-    Element-like a (Element.comment s at mark all) =
-        Element.comment s (sym (a.column mark) ∙ at) mark all
-    Element-like a (Element.last_comment at mark all) =
-        Element.last_comment (sym (a.column mark) ∙ at) mark all
-    Element-like a (Element.header off str) = Element.header off str
-    Element-like a (Element.bracketed_header on str i) = Element.bracketed_header on str i
-    Element-like a (Element.pair {s = s} {m = m} front some sep value) =
-        Element.pair (KeyFront-like (Agree-front (m ∷ s) a) front) some sep value
-    Element-like a (Element.dropped_blanks i) = Element.dropped_blanks (Indentation-like a i)
-    Element-like a (Element.dropped_key {s = s} runs i begins stops) =
-        Element.dropped_key runs (Indentation-like (Agree-front s a) i) begins stops
+  -- after a front that agrees
+  pub Element-like : {s r : List ℕ} {gives : List Given} → Agree o b c s → Element o b s r gives
+      → Element o c s r gives
+  Element-like a (Element.gap g) = Element.gap (Gap-like a g)
+  Element-like a (Element.comment s at mark all) =
+      Element.comment s (sym (a.column mark) ∙ at) mark all
+  Element-like a (Element.last_comment at mark all) =
+      Element.last_comment (sym (a.column mark) ∙ at) mark all
+  Element-like a (Element.indented_comment {s = s} on i noted) =
+      Element.indented_comment on (Indentation-like (Agree-front s a) i) noted
+  Element-like a (Element.comment_after_cr on start late noted) =
+      let mark = Note-begins noted in
+      Element.comment_after_cr on (sym (a.comment on mark) ∙ start) (sym (a.column mark) ∙ late) noted
+  Element-like a (Element.header off str) = Element.header off str
+  Element-like a (Element.bracketed_header on str i) = Element.bracketed_header on str i
+  Element-like a (Element.pair {s = s} {m = m} front some sep value) =
+      Element.pair (KeyFront-like (Agree-front (m ∷ s) a) front) some sep value
+  Element-like a (Element.dropped_blanks i) = Element.dropped_blanks (Indentation-like a i)
+  Element-like a (Element.dropped_key {s = s} runs i begins stops) =
+      Element.dropped_key runs (Indentation-like (Agree-front s a) i) begins stops
 
 -- texts that begin alike
 pub BeginAlike-same : (r : List ℕ) → BeginAlike r r

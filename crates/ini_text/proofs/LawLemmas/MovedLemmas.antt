@@ -9,6 +9,7 @@ use Rattle.ini_text.specs.declared.error.ParseKind.{ParseKind}
 use Rattle.ini_text.specs.Grammar.CharacterKinds.{line_feed, open_bracket, is_blank, is_comment_mark, is_line_feed, is_line_end, BeginsWith}
 use Rattle.ini_text.specs.Grammar.Positions.{column_of, last_or, line_of, starts_line, is_column_one, last_line}
 use Rattle.ini_text.specs.Grammar.Keys.{Indentation, KeyFront, begins_key}
+use Rattle.ini_text.specs.Grammar.Lines.{Note}
 use Rattle.ini_text.specs.Grammar.Elements.{Given, Gap, Element, ElementStops}
 use Rattle.ini_text.specs.Grammar.Texts.{Reads, Derives, Stops}
 use Rattle.ini_text.specs.Parsing.Parser.{StopsPast}
@@ -55,6 +56,10 @@ module _ (W : List ℕ) (one : is_column_one W ≡ true) where
         Element.comment s (is_column_one-after b ∙ at) mark all
     Element-after {b} (Element.last_comment at mark all) =
         Element.last_comment (is_column_one-after b ∙ at) mark all
+    Element-after (Element.indented_comment on i noted) =
+        Element.indented_comment on (Indentation-after i) noted
+    Element-after {b} (Element.comment_after_cr on start late noted) =
+        Element.comment_after_cr on (starts_line-after b ∙ start) (is_column_one-after b ∙ late) noted
     Element-after (Element.header off str) = Element.header off str
     Element-after (Element.bracketed_header on str i) = Element.bracketed_header on str i
     Element-after (Element.pair front some sep value) = Element.pair (KeyFront-after front) some sep value
@@ -76,8 +81,8 @@ module _ (W : List ℕ) (one : is_column_one W ≡ true) where
         ElementStops.no_separator (KeyFront-after front) end
     ElementStops-after (ElementStops.in_value front some sep stops) =
         ElementStops.in_value (KeyFront-after front) some sep stops
-    ElementStops-after {b} (ElementStops.late_comment mark late) =
-        ElementStops.late_comment mark (is_column_one-after b ∙ late)
+    ElementStops-after {b} (ElementStops.late_comment mark late within) =
+        ElementStops.late_comment mark (is_column_one-after b ∙ late) (λ on. starts_line-after b ∙ within on)
 
     pub Reads-after : {Y b c : List ℕ} {items : List Given} → Reads o Y b items c
         → Reads o (W ++ Y) (W ++ b) items (W ++ c)
@@ -184,6 +189,10 @@ module _ {o : ParseOption} where
   header_element {r = r} y more (Element.comment {m} s at mark all) e =
       absurd (false≢true (begins_bracket is_comment_mark (m ∷ []) _ y mark e))
   header_element {r = r} y more (Element.last_comment {m} at mark all) e =
+      absurd (false≢true (begins_bracket is_comment_mark (m ∷ []) _ y mark e))
+  header_element {r = r} y more (Element.indented_comment {w} {s} on i noted) e =
+      absurd (no_blank (s ++ r) y i (sym (append_assoc w s r) ∙ e))
+  header_element {r = r} y more (Element.comment_after_cr on start late (Note.note {m} mark all closes)) e =
       absurd (false≢true (begins_bracket is_comment_mark (m ∷ []) _ y mark e))
   header_element y more (Element.header off str) e = tt
   header_element y more (Element.bracketed_header on str i) e = tt

@@ -4,11 +4,11 @@ use Rattle.std.proofs.Common.{◌≤◌, ◌≡◌, ℕ, Bool, List, [], ◌∷�
 use Rattle.std.proofs.lemmas.List.{append_cancel_left}
 use Rattle.ini_text.specs.Options.Backslashes.{Backslash}
 use Rattle.ini_text.specs.declared.option.ParseOption.{ParseOption}
-use Rattle.ini_text.specs.Grammar.CharacterKinds.{is_blank, is_inline_white, is_line_end, is_line_feed, is_quote_mark, BeginsWith, BeginsWithNo}
+use Rattle.ini_text.specs.Grammar.CharacterKinds.{is_blank, is_comment_mark, is_inline_white, is_line_end, is_line_feed, is_quote_mark, BeginsWith, BeginsWithNo}
 use Rattle.ini_text.specs.Grammar.WhiteSpace.{Lead}
 use Rattle.ini_text.specs.Grammar.Strings.{Ends, Str}
-use Rattle.ini_text.specs.Grammar.Lines.{Line}
-use Rattle.ini_text.specs.Grammar.Values.{LineEnd, MoreLines, Value}
+use Rattle.ini_text.specs.Grammar.Lines.{Line, Note}
+use Rattle.ini_text.specs.Grammar.Values.{CommentLine, GoesOn, LineEnd, MoreLines, Value}
 use Rattle.ini_text.specs.Grammar.Keys.{begins_key, begins_indented_key, KeyFront}
 use Rattle.ini_text.specs.Grammar.Elements.{Given, Gap, Element}
 use Rattle.ini_text.specs.Grammar.Texts.{Reads}
@@ -46,6 +46,9 @@ LineEnd-alike a LineEnd.lf = LineEnd.lf
 LineEnd-alike a LineEnd.cr_lf = LineEnd.cr_lf
 LineEnd-alike a (LineEnd.cr n) = LineEnd.cr (BeginsWithNo-alike is_line_feed a n)
 
+pub Note-alike : {s r x : List ℕ} → Alike r x → Note s r → Note s x
+Note-alike Alike.same (Note.note mark all closes) = Note.note mark all closes
+
 pub Gap-alike : {b s r x : List ℕ} → Alike r x → Gap b s r → Gap b s x
 Gap-alike a (Gap.blank_line c ind h) = Gap.blank_line c ind h
 Gap-alike Alike.same (Gap.before_header ind) = Gap.before_header ind
@@ -63,17 +66,43 @@ module _ {o : ParseOption} where
       let a = Alike-some e r x (line_end-some end) in
       record { lead = Lead-alike (Alike-after l a) n.lead; line = Line-alike a n.line; end = end }
 
+  -- before a text that begins alike
+  pub GoesOn-alike : {w r x : List ℕ} → Alike r x → GoesOn o w r → GoesOn o w x
+  GoesOn-alike a goes = record {
+    begins = goes.begins;
+    lead = Lead-alike a goes.lead;
+    text = λ on. BeginsWithNo-alike is_comment_mark a (goes.text on);
+  }
+
+  pub CommentLine-alike : {s r x : List ℕ} → Alike r x → CommentLine o s r → CommentLine o s x
+  CommentLine-alike a (CommentLine.comment {n = n} on begins lead noted) =
+      CommentLine.comment on begins (Lead-alike (Alike-after n a) lead) (Note-alike a noted)
+
+  -- the line end stands before each text before which it does
+  pub GoesOn-before : {w e r : List ℕ} (l x : List ℕ) → LineEnd e r → GoesOn o w (l ++ (e ++ r))
+      → GoesOn o w (l ++ (e ++ x))
+  GoesOn-before {e = e} {r} l x end goes =
+      GoesOn-alike (Alike-after l (Alike-some e r x (line_end-some end))) goes
+
+  pub CommentLine-before : {s e r : List ℕ} (x : List ℕ) → LineEnd e r → CommentLine o s (e ++ r)
+      → CommentLine o s (e ++ x)
+  CommentLine-before {e = e} {r} x end line = CommentLine-alike (Alike-some e r x (line_end-some end)) line
+
   pub MoreLines-alike : {s r v x : List ℕ} → Alike r x → MoreLines o s r v → MoreLines o s x v
   MoreLines-alike a (MoreLines.done n m) =
       MoreLines.done (BeginsWithNo-alike is_blank a n) (BeginsWithNo-alike is_line_end a m)
   MoreLines-alike a (MoreLines.empty_lf m) = MoreLines.empty_lf (MoreLines-alike a m)
   MoreLines-alike a (MoreLines.empty_cr_lf m) = MoreLines.empty_cr_lf (MoreLines-alike a m)
-  MoreLines-alike a (MoreLines.continued {t = t} b lead ln end m) =
+  MoreLines-alike {x = x} a (MoreLines.continued {l = l} {t = t} goes ln end m) =
       let n =
       EndedLine-before (LineEnd-alike (Alike-after t a) end)
-      (record { lead = lead; line = ln; end = end }) in
-      MoreLines.continued b n.lead n.line n.end (MoreLines-alike a m)
-  MoreLines-alike a (MoreLines.last b lead ln) = elim a [ ]
+      (record { lead = goes.lead; line = ln; end = end }) in
+      MoreLines.continued (GoesOn-before l (t ++ x) end goes) n.line n.end (MoreLines-alike a m)
+  MoreLines-alike a (MoreLines.last goes ln) = elim a [ ]
+  MoreLines-alike {x = x} a (MoreLines.comment {t = t} line end m) =
+      MoreLines.comment (CommentLine-before (t ++ x) end line) (LineEnd-alike (Alike-after t a) end)
+      (MoreLines-alike a m)
+  MoreLines-alike a (MoreLines.last_comment line) = elim a [ ]
 
   pub Value-alike : {s r v x : List ℕ} → Alike r x → Value o s r v → Value o s x v
   Value-alike a (Value.one_line {l = l} off lead ln) =
@@ -89,7 +118,7 @@ module _ {o : ParseOption} where
   KeyFront-alike a (KeyFront.unindented {s} begins str) =
       KeyFront.unindented (BeginsWith-alike begins_key (Alike-after s a) begins) (Str-alike a str)
   KeyFront-alike a (KeyFront.indented {s = s} ind begins str) =
-      KeyFront.indented ind (BeginsWith-alike begins_indented_key (Alike-after s a) begins)
+      KeyFront.indented ind (BeginsWith-alike (begins_indented_key o) (Alike-after s a) begins)
       (Str-alike a str)
 
   pub Element-alike : {b s r x : List ℕ} {gives : List Given} → Alike r x → Element o b s r gives
@@ -97,6 +126,10 @@ module _ {o : ParseOption} where
   Element-alike a (Element.gap g) = Element.gap (Gap-alike a g)
   Element-alike a (Element.comment s one mark all) = Element.comment s one mark all
   Element-alike a (Element.last_comment one mark all) = elim a [ ]
+  Element-alike a (Element.indented_comment on ind noted) =
+      Element.indented_comment on ind (Note-alike a noted)
+  Element-alike a (Element.comment_after_cr on start late noted) =
+      Element.comment_after_cr on start late (Note-alike a noted)
   Element-alike a (Element.header off str) = Element.header off (Str-alike Alike.same str)
   Element-alike a (Element.bracketed_header on str i) = Element.bracketed_header on (Str-alike a str) i
   Element-alike a (Element.pair front some sep given) =

@@ -19,7 +19,7 @@ use Rattle.ini_text.proofs.ReaderLemmas.ReaderLemmas.{Rule}
 use Rattle.ini_text.proofs.ReaderLemmas.RunReaderLemmas.{BeginsWith-some}
 use Rattle.ini_text.proofs.ReaderLemmas.ValueReaderLemmas.{EndedLine}
 use Rattle.ini_text.proofs.GrammarLemmas.ItemLemmas.{element-some}
-use Rattle.ini_text.proofs.LawLemmas.OneAheadLemmas.{Alike, Alike-some, BeginsWith-alike, BeginsWithNo-alike, Lead-alike, LineEnd-alike, EndedLine-before, Str-alike, KeyFront-alike, Reads-alike}
+use Rattle.ini_text.proofs.LawLemmas.OneAheadLemmas.{Alike, Alike-some, BeginsWith-alike, BeginsWithNo-alike, Lead-alike, LineEnd-alike, EndedLine-before, Str-alike, KeyFront-alike, Reads-alike, GoesOn-alike, GoesOn-before, CommentLine-before}
 
 -- What stops at a character has a source, and stops there before each x.
 EscapeStops-stands : {p r : List ℕ} {k : ParseKind} (x : List ℕ) → k ≢ EndOfText → EscapeStops p r k
@@ -105,21 +105,36 @@ module _ (o : ParseOption) where
       IsCut-after (carriage_return ∷ line_feed ∷ []) refl
       (λ t v h more. (line_feed ∷ v, MoreLines.empty_cr_lf more)) in
       (omega arith, MoreLinesStop.empty_cr_lf (MoreLinesStop-stands x n (λ c. uncut (cut c)) m).1)
-  MoreLinesStop-stands {k = k} x n uncut (MoreLinesStop.continued {w} {l} {e} {t} {r} {u} b lead ln end m) =
-      let line : EndedLine o false w l e (t ++ r) u = record { lead = lead; line = ln; end = end } in
+  MoreLinesStop-stands {k = k} x n uncut (MoreLinesStop.continued {w} {l} {e} {t} {r} {u} goes ln end m) =
+      let line : EndedLine o false w l e (t ++ r) u = record { lead = goes.lead; line = ln; end = end } in
       let cut : IsCut (MoreLines o) t r k → IsCut (MoreLines o) (w ++ (l ++ (e ++ t))) r k =
       IsCut-after (w ++ (l ++ e)) (simp append_assoc) (λ before v h more.
-      let c = EndedLine-cut r before h line in
-      (line_feed ∷ (u ++ v), simp append_assoc (MoreLines.continued b c.lead c.line c.end more))) in
+      let c = EndedLine-cut r before h line in (
+        line_feed ∷ (u ++ v),
+        simp append_assoc
+            (MoreLines.continued (GoesOn-before l (before ++ []) end goes) c.line c.end more),
+      )) in
       let y = MoreLinesStop-stands x n (λ c. uncut (cut c)) m in
       let z = EndedLine-before (LineEnd-alike (Alike-some t r x y.0) end) line in (
-        omega (arith, BeginsWith-some is_blank w b, length-append w (l ++ (e ++ t))),
-        MoreLinesStop.continued b z.lead z.line z.end y.1,
+        omega (arith, BeginsWith-some is_blank w goes.begins, length-append w (l ++ (e ++ t))),
+        MoreLinesStop.continued (GoesOn-before l (t ++ x) end goes) z.line z.end y.1,
       )
-  MoreLinesStop-stands x n uncut (MoreLinesStop.in_line {w} {s} {r} b lead stops) =
+  MoreLinesStop-stands {k = k} x n uncut (MoreLinesStop.comment {s} {e} {t} {r} line end m) =
+      let cut : IsCut (MoreLines o) t r k → IsCut (MoreLines o) (s ++ (e ++ t)) r k =
+      IsCut-after (s ++ e) (simp append_assoc) (λ before v h more. (
+        v,
+        simp append_assoc (MoreLines.comment (CommentLine-before (before ++ []) end line)
+            (LineEnd-cut before r (ap (λ y. y ++ r) h) end) more),
+      )) in
+      let y = MoreLinesStop-stands x n (λ c. uncut (cut c)) m in (
+        omega (arith, y.0, length-append s (e ++ t), length-append e t),
+        MoreLinesStop.comment (CommentLine-before (t ++ x) end line)
+            (LineEnd-alike (Alike-some t r x y.0) end) y.1,
+      )
+  MoreLinesStop-stands x n uncut (MoreLinesStop.in_line {w} {s} {r} goes stops) =
       let y = LineStops-stands x n stops in (
         omega (arith, length-append w s, y.0),
-        MoreLinesStop.in_line b (Lead-alike (Alike-some s r x y.0) lead) y.1,
+        MoreLinesStop.in_line (GoesOn-alike (Alike-some s r x y.0) goes) y.1,
       )
   MoreLinesStop-stands x n uncut (MoreLinesStop.cr_alone m) = (omega arith, MoreLinesStop.cr_alone m)
   MoreLinesStop-stands x n uncut MoreLinesStop.cr_at_end =
@@ -172,7 +187,7 @@ module _ (o : ParseOption) where
       let y = StrStops-stands x n stops in (
         omega (arith, length-append w s, y.0),
         ElementStops.in_indented_key ind
-            (BeginsWith-alike begins_indented_key (Alike-some s r x y.0) begins) y.1 m,
+            (BeginsWith-alike (begins_indented_key o) (Alike-some s r x y.0) begins) y.1 m,
       )
   ElementStops-stands x n uncut (ElementStops.no_key {k} {m = m} front sep) =
       (omega (arith, length-append k (m ∷ [])), ElementStops.no_key (KeyFront-alike Alike.same front) sep)
@@ -191,8 +206,8 @@ module _ (o : ParseOption) where
         ElementStops.in_value (KeyFront-alike Alike.same front) some
             sep (ValueStops-stands x n (λ c. uncut (cut c)) stops).1,
       )
-  ElementStops-stands x n uncut (ElementStops.late_comment mark late) =
-      (omega arith, ElementStops.late_comment mark late)
+  ElementStops-stands x n uncut (ElementStops.late_comment mark late within) =
+      (omega arith, ElementStops.late_comment mark late within)
 
   -- a whole element and a CR after a front: the text is whole but for the CR
   IsWholeBeforeCr-after : {T b s r : List ℕ} {items : List Given} {k : ParseKind} → Reads o T [] items b

@@ -40,7 +40,7 @@ rest_of xs ys r =
 
 module _ {o : ParseOption} where
   -- after another character, and before another text
-  pub pieces_like : {c d : ℕ} {r : List ℕ} {ps : List Piece} → Agree (c ∷ []) (d ∷ []) (pieces_text ps)
+  pub pieces_like : {c d : ℕ} {r : List ℕ} {ps : List Piece} → Agree o (c ∷ []) (d ∷ []) (pieces_text ps)
       → ArePieces o c ps r → ArePieces o d ps r
   pieces_like a ArePieces.none = ArePieces.none
   pieces_like {c} {d} {r} a (ArePieces.more {p = p} {ps = ps} e rest) =

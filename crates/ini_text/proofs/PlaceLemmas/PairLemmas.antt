@@ -35,7 +35,8 @@ use Rattle.ini_text.specs.Parsing.Parser.{memory, parse, TellsRefusal, refusal_o
 use Rattle.ini_text.specs.Parsing.Places.{gives, HasPlaces, StandsBetween, StopsAfter, RefusesElement}
 use Rattle.ini_text.proofs.GrammarLemmas.ItemLemmas.{element-some}
 use Rattle.ini_text.proofs.GrammarLemmas.KindLemmas.{no_white_no_blank}
-use Rattle.ini_text.proofs.ReaderLemmas.ElementReaderLemmas.{element-says, key_string-reads}
+use Rattle.ini_text.proofs.ReaderLemmas.KeyReaderLemmas.{key_apart, key_string-reads}
+use Rattle.ini_text.proofs.ReaderLemmas.ElementReaderLemmas.{element-says}
 use Rattle.ini_text.proofs.ReaderLemmas.RunReaderLemmas.{run-finds, run-sound}
 use Rattle.ini_text.proofs.ReaderLemmas.ValueReaderLemmas.{value-reads}
 use Rattle.ini_text.proofs.StringLemmas.FrontLemmas.{front_is, front_grows}
@@ -64,6 +65,8 @@ pair_of : {o : ParseOption} {b s r key v : List ℕ} {items : List Given} → El
 pair_of (Element.gap g) e = cc
 pair_of (Element.comment s one mark all) e = cc
 pair_of (Element.last_comment one mark all) e = cc
+pair_of (Element.indented_comment on ind noted) e = cc
+pair_of (Element.comment_after_cr on start late noted) e = cc
 pair_of (Element.header off str) e = cc
 pair_of (Element.bracketed_header on str i) e = cc
 pair_of {o} {b} {r = r} {key} {v}
@@ -90,11 +93,10 @@ key_begins (c ∷ t) begins =
     let y = or_parts (is_whitespace c) (is_comment_mark c) x.0 in
     rw (no_white_no_blank c y.0) refl
 
-indented_begins : (t : List ℕ) → BeginsWith begins_indented_key t → BeginsWithNo is_blank t
-indented_begins [] begins = tt
-indented_begins (c ∷ t) begins =
-    let x = or_parts (is_blank c || is_line_end c) (c == open_bracket) (not-true _ begins) in
-    (or_parts (is_blank c) (is_line_end c) x.0).0
+indented_begins : (o : ParseOption) (t : List ℕ) → BeginsWith (begins_indented_key o) t
+    → BeginsWithNo is_blank t
+indented_begins o [] begins = tt
+indented_begins o (c ∷ t) begins = (key_apart o c begins).blank
 
 -- after the blanks of its line a key is read as a string
 key_read : {o : ParseOption} {b k x key : List ℕ} {m : ℕ} → KeyFront o b k (m ∷ x) key
@@ -106,7 +108,7 @@ key_read {o} {x = x} {m = m} (KeyFront.unindented {s} {v = v} begins str) = (
 key_read {o} {x = x} {m = m} (KeyFront.indented {w} {s} {v = v} ind begins str) =
     let following : skipped is_blank ((w ++ s) ++ m ∷ x) ≡ s ++ m ∷ x =
     ap (skipped is_blank) (append_assoc w s (m ∷ x))
-    ∙ (run-finds is_blank w (s ++ m ∷ x) ind.blank (indented_begins (s ++ m ∷ x) begins)).1 in (
+    ∙ (run-finds is_blank w (s ++ m ∷ x) ind.blank (indented_begins o (s ++ m ∷ x) begins)).1 in (
       v,
       ap (key_string o) following ∙ (key_string-reads o).finds str,
     )

@@ -1,5 +1,5 @@
 -- A value's own lines and what stands after them, line by line.
-use Rattle.std.proofs.Common.{◌≡◌, ◌≢◌, ◌<◌, ℕ, true, false, ◌==◌, List, [], ◌∷◌, ◌++◌, length, Some, None, inl, inr, refl, sym, ap, ◌∙◌, subst, append_assoc, append-nil, chars, eqb-true, ne_eqb}
+use Rattle.std.proofs.Common.{◌≡◌, ◌≢◌, ◌<◌, ℕ, true, false, ◌==◌, List, [], ◌∷◌, ◌++◌, length, Some, None, inl, inr, refl, sym, ap, ◌∙◌, subst, subst₂, append_assoc, append-nil, chars, eqb-true, ne_eqb}
 use Rattle.std.proofs.Math.Bool.{or-false}
 use Rattle.std.proofs.lemmas.Bool.{cases_Bool}
 use Rattle.std.proofs.lemmas.List.Folds.{list_all-append}
@@ -7,22 +7,23 @@ use Rattle.std.specs.List.{list_all}
 use Rattle.ini_text.specs.declared.option.ParseOption.{ParseOption}
 use Rattle.ini_text.specs.declared.error.ParseKind.{ParseKind}
 use Rattle.ini_text.specs.declared.parser.rests.Rests.{Rests}
-use Rattle.ini_text.specs.Grammar.CharacterKinds.{line_feed, carriage_return, is_blank, is_line_end, is_line_feed, is_inline_white, BeginsWith, BeginsWithNo}
+use Rattle.ini_text.specs.Grammar.CharacterKinds.{line_feed, carriage_return, is_blank, is_comment_mark, is_line_end, is_line_feed, is_inline_white, BeginsWith, BeginsWithNo}
 use Rattle.ini_text.specs.Grammar.WhiteSpace.{Lead, without_outer_line_feeds}
 use Rattle.ini_text.specs.Grammar.Strings.{Closes, plain_ends}
 use Rattle.ini_text.specs.Grammar.Lines.{Line, LineStops}
-use Rattle.ini_text.specs.Grammar.Values.{LineEnd, MoreLines}
+use Rattle.ini_text.specs.Grammar.Values.{CommentLine, GoesOn, LineEnd, MoreLines}
 use Rattle.ini_text.specs.Grammar.Places.{LastLine, OwnLines, TrailingLines}
 use Rattle.ini_text.specs.Inside.LineReader.{line}
 use Rattle.ini_text.specs.Inside.PlaceReader.{HasTail, TailSoFar}
 use Rattle.ini_text.specs.Inside.Reading.{found, stopped, prepend, altered_answer}
 use Rattle.ini_text.specs.Inside.Scans.{run_of, skipped}
-use Rattle.ini_text.specs.Inside.ValueReader.{after_end, empty_cr, more_lines, value}
+use Rattle.ini_text.specs.Inside.ValueReader.{after_end, comment_end, empty_cr, more_lines, value}
 use Rattle.ini_text.proofs.GrammarLemmas.KindLemmas.{blank_inline}
 use Rattle.ini_text.proofs.ReaderLemmas.ReaderLemmas.{Says, prepend-nil, prepend-prepend}
 use Rattle.ini_text.proofs.ReaderLemmas.LineReaderLemmas.{line-reads}
 use Rattle.ini_text.proofs.ReaderLemmas.RunReaderLemmas.{run-sound}
-use Rattle.ini_text.proofs.ReaderLemmas.ValueReaderLemmas.{EndSays, after_end-sound, Line-closes, MoreLines-finds, empty_line, empty_cr_line, line_goes_on, line_ends, line_stops, value_line, value_ends, value_goes_on}
+use Rattle.ini_text.proofs.ReaderLemmas.LineTurnLemmas.{comment_at, comment_goes_on, no_comment_text, empty_line, empty_cr_line, line_goes_on, line_ends, line_stops, value_line, value_ends, value_goes_on}
+use Rattle.ini_text.proofs.ReaderLemmas.ValueReaderLemmas.{CommentLine-closes, EndSays, after_end-sound, no_end, Line-closes, MoreLines-finds}
 
 pub feeds_all : (u : List ℕ) → skipped is_line_feed u ≡ [] → list_all is_line_feed u ≡ true
 feeds_all [] h = refl
@@ -43,13 +44,6 @@ all_after : (u v : List ℕ) → list_all is_line_feed u ≡ true → list_all i
     → list_all is_line_feed (u ++ v) ≡ true
 all_after u v a b = rw (list_all-append is_line_feed u v, a, b) refl
 
--- a line that no line end follows ends the text
-no_end : (t : List ℕ) → Closes plain_ends t → after_end t ≡ None → t ≡ []
-no_end [] h n = refl
-no_end (c ∷ cs) h n =
-    let none : BeginsWithNo is_line_end (c ∷ cs) = subst (EndSays (c ∷ cs)) n (after_end-sound (c ∷ cs)) in
-    let z : true ≡ false = sym (rw or-false at h) ∙ none in cc
-
 pub found_rest : {A : Type 0} {v w : List A} {x y : List ℕ} → found v x ≡ found w y → x ≡ y
 found_rest h = cc
 
@@ -69,8 +63,7 @@ after_cr-is (c ∷ cs) r h = elim (cases_Bool (c == line_feed)) [
 record LineAt (o : ParseOption) (t end u : List ℕ) : Type 0 where
   pub w : List ℕ
   pub l : List ℕ
-  pub begins : BeginsWith is_blank w
-  pub lead : Lead w (l ++ end)
+  pub goes : GoesOn o w (l ++ end)
   pub ln : Line o false l end u
   pub whole : (w ++ l) ++ end ≡ t
 
@@ -82,20 +75,24 @@ at_rests rests p q h = rw (p, q) h
 
 module _ (o : ParseOption) where
   line_at : {t cs start end u : List ℕ} {c : ℕ} → t ≡ c ∷ cs → is_blank c ≡ true
-      → start ≡ skipped is_inline_white t → line o false start ≡ found u end
+      → comment_end o c cs ≡ None → start ≡ skipped is_inline_white t → line o false start ≡ found u end
       → LineAt o t end u
-  line_at {t} {cs} {start} {end} {u} {c} is b skips read =
+  line_at {t} {cs} {start} {end} {u} {c} is b none skips read =
       let (l, ln, h) =
       subst (Says (Line o false) (LineStops o) start) read ((line-reads o false).sound start) in
       let split = run-sound is_inline_white t in
       record {
         w = run_of is_inline_white t;
         l = l;
-        begins =
-            subst (λ y. BeginsWith is_blank (run_of is_inline_white y)) (sym is) (rw (blank_inline c b) b);
-        lead = record {
-          white = split.all;
-          ends = subst (BeginsWithNo is_inline_white) (sym (h ∙ skips)) split.ends;
+        goes = record {
+          begins =
+              subst (λ y. BeginsWith is_blank (run_of is_inline_white y)) (sym is) (rw (blank_inline c b) b);
+          lead = record {
+            white = split.all;
+            ends = subst (BeginsWithNo is_inline_white) (sym (h ∙ skips)) split.ends;
+          };
+          text = subst (λ y. o.enabled_indented_comment ≡ true → BeginsWithNo is_comment_mark y)
+              (sym (h ∙ skips ∙ ap (skipped is_inline_white) is)) (no_comment_text o c cs b none);
         };
         ln = ln;
         whole =
@@ -129,11 +126,10 @@ module _ (o : ParseOption) where
     line_row : Row row_source next (line_feed ∷ u)
     line_row = record {
       last = λ s r q x. subst (λ y. LastLine o y r) (sym (seam s))
-          (LastLine.continued here.begins (subst (λ y. Lead here.w (here.l ++ y)) (onward s r q) here.lead)
+          (LastLine.continued (subst (λ y. GoesOn o here.w (here.l ++ y)) (onward s r q) here.goes)
           (subst (λ y. Line o false here.l y u) (onward s r q) here.ln) (subst (LineEnd e) (sym q) le) x);
       more = λ s r v q m. subst (λ y. MoreLines o y r (line_feed ∷ (u ++ v))) (sym (seam s))
-          (MoreLines.continued here.begins
-          (subst (λ y. Lead here.w (here.l ++ y)) (onward s r q) here.lead)
+          (MoreLines.continued (subst (λ y. GoesOn o here.w (here.l ++ y)) (onward s r q) here.goes)
           (subst (λ y. Line o false here.l y u) (onward s r q) here.ln) (subst (LineEnd e) (sym q) le) m);
     }
 
@@ -293,23 +289,64 @@ module _ (o : ParseOption) {text start : List ℕ} (skips : start ≡ skipped is
 
   pub tail_line_stops : {tail rest cs following r given : List ℕ} {c : ℕ} {k : ParseKind}
       → TailSoFar o text start tail rest given → rest ≡ c ∷ cs → is_blank c ≡ true
-      → following ≡ skipped is_inline_white rest → line o false following ≡ stopped r k
+      → comment_end o c cs ≡ None → following ≡ skipped is_inline_white rest → line o false following ≡ stopped r k
       → value o text ≡ stopped r k
-  tail_line_stops {rest = rest} st is b from h =
+  tail_line_stops {rest = rest} st is b none from h =
       tail_stops st (sym (prepend-nil (more_lines o rest))
-      ∙ line_stops o [] (line_feed ∷ []) is b from refl (ap (prepend (line_feed ∷ [])) h))
+      ∙ line_stops o [] (line_feed ∷ []) is b from none refl (ap (prepend (line_feed ∷ [])) h))
+
+  -- an indented comment
+  module _ {tail rest cs end given : List ℕ} {c : ℕ} (on : o.enabled_indented_mutiline_value ≡ true)
+      (st : TailSoFar o text start tail rest given) (is : rest ≡ c ∷ cs)
+      (comment : comment_end o c cs ≡ Some end) where
+    at : (s : List ℕ) × CommentLine o s end × (s ++ end ≡ rest)
+    at = let x = comment_at o c cs comment in (x.0, x.1, x.2 ∙ sym is)
+
+    pub tail_comment-last : after_end end ≡ None
+        → HasTail o text start tail (without_outer_line_feeds given) end
+    tail_comment-last none =
+        let (s, line, whole) = at in
+        let ended : end ≡ [] = no_end end (CommentLine-closes o line) none in
+        let done : HasTail o text start tail (without_outer_line_feeds (given ++ [])) [] =
+        tail_done on st s [] [] (ap (λ x. s ++ x) (sym ended) ∙ whole)
+        (MoreLines.last_comment (subst (CommentLine o s) ended line)) refl in
+        subst₂ (λ v r. HasTail o text start tail (without_outer_line_feeds v) r) (append-nil given)
+        (sym ended) done
+
+    module _ {next : List ℕ} (some : after_end end ≡ Some next) where
+      turned : (more_lines o rest ≡ prepend [] (more_lines o next)) × (length next < length rest)
+      turned = comment_goes_on o is comment some
+
+      pub tail_comment-shorter : length next < length rest
+      tail_comment-shorter = turned.1
+
+      pub tail_comment : TailSoFar o text start tail next given
+      tail_comment =
+          let (s, line, whole) = at in
+          let (e, le, q) = subst (EndSays end) some (after_end-sound end) in
+          let row : Row o (s ++ e) next [] = record {
+            last = λ t r h x. subst (λ y. LastLine o y r) (sym (append_assoc s e t))
+                (LastLine.comment (subst (CommentLine o s) (sym q ∙ ap (λ y. e ++ y) (sym h)) line)
+                (subst (LineEnd e) (sym h) le) x);
+            more = λ t r v h m. subst (λ y. MoreLines o y r v) (sym (append_assoc s e t))
+                (MoreLines.comment (subst (CommentLine o s) (sym q ∙ ap (λ y. e ++ y) (sym h)) line)
+                (subst (LineEnd e) (sym h) le) m);
+          } in
+          subst (TailSoFar o text start tail next) (append-nil given)
+          (tail_row (s ++ e) [] st
+          (sym whole ∙ ap (λ y. s ++ y) (sym q) ∙ sym (append_assoc s e next)) turned.0 row refl)
 
   -- a line that begins with a blank
   module _ {tail rest cs following end u given : List ℕ} {c : ℕ}
       (on : o.enabled_indented_mutiline_value ≡ true) (st : TailSoFar o text start tail rest given)
-      (is : rest ≡ c ∷ cs) (b : is_blank c ≡ true)
+      (is : rest ≡ c ∷ cs) (b : is_blank c ≡ true) (no_comment : comment_end o c cs ≡ None)
       (from : following ≡ skipped is_inline_white rest) (read : line o false following ≡ found u end) where
     here : LineAt o rest end u
-    here = line_at o is b from read
+    here = line_at o is b no_comment from read
 
     own_line : list_all is_line_feed u ≡ false → OwnLines o (st.before ++ (here.w ++ here.l)) end
     own_line some =
-        st.grows (here.w ++ here.l) end here.whole (LastLine.last here.begins here.lead here.ln some)
+        st.grows (here.w ++ here.l) end here.whole (LastLine.last here.goes here.ln some)
 
     own_whole : start ≡ (st.before ++ (here.w ++ here.l)) ++ end
     own_whole =
@@ -327,13 +364,13 @@ module _ (o : ParseOption) {text start : List ℕ} (skips : start ≡ skipped is
       pub last_line-empty : list_all is_line_feed u ≡ true
           → HasTail o text start tail (without_outer_line_feeds (given ++ (line_feed ∷ u))) end
       last_line-empty all =
-          let lead : Lead here.w here.l =
-          subst (Lead here.w) (ap (λ x. here.l ++ x) ended ∙ append-nil here.l) here.lead in
+          let goes : GoesOn o here.w here.l =
+          subst (GoesOn o here.w) (ap (λ x. here.l ++ x) ended ∙ append-nil here.l) here.goes in
           let whole : (here.w ++ here.l) ++ [] ≡ rest =
           ap (λ x. (here.w ++ here.l) ++ x) (sym ended) ∙ here.whole in
           subst (HasTail o text start tail (without_outer_line_feeds (given ++ (line_feed ∷ u)))) (sym ended)
           (tail_done on st (here.w ++ here.l) [] (line_feed ∷ u) whole
-          (MoreLines.last here.begins lead (subst (λ x. Line o false here.l x u) ended here.ln)) all)
+          (MoreLines.last goes (subst (λ x. Line o false here.l x u) ended here.ln)) all)
 
       pub last_line-own : list_all is_line_feed u ≡ false
           → HasTail o text start end (without_outer_line_feeds (given ++ (line_feed ∷ u))) end
@@ -345,7 +382,7 @@ module _ (o : ParseOption) {text start : List ℕ} (skips : start ≡ skipped is
         tail_is = refl;
         reads = st.reads ∙ ap (λ a. altered_answer without_outer_line_feeds (prepend given a))
             (sym (prepend-nil (more_lines o rest))
-            ∙ line_ends o [] (line_feed ∷ []) is b from refl feed_first none);
+            ∙ line_ends o [] (line_feed ∷ []) is b from no_comment refl feed_first none);
         own_lines = own_line some;
         is_tail = subst (TrailingLines o []) (sym ended) (TrailingLines.end on);
       }
@@ -353,7 +390,7 @@ module _ (o : ParseOption) {text start : List ℕ} (skips : start ≡ skipped is
     module _ {next : List ℕ} (some : after_end end ≡ Some next) where
       goes : (prepend [] (more_lines o rest) ≡ prepend (line_feed ∷ u) (more_lines o next))
           × (length next < length rest)
-      goes = line_goes_on o [] (line_feed ∷ []) is b from refl feed_first some
+      goes = line_goes_on o [] (line_feed ∷ []) is b from no_comment refl feed_first some
 
       turn : more_lines o rest ≡ prepend (line_feed ∷ u) (more_lines o next)
       turn = sym (prepend-nil (more_lines o rest)) ∙ goes.0

@@ -3,6 +3,7 @@ use Rattle.std.proofs.Common.{◌≡◌, ◌≢◌, ◌⊎◌, inl, inr, ℕ, Bo
 use Rattle.std.proofs.lemmas.Bool.{cond_both, cond-true, cond-false, or_left, or_right, or_from, or_cases, and_left, and_right, and_parts, and_from, both_ways, false_from_ne_true, cases_Bool}
 use Rattle.std.specs.Char.{is_whitespace}
 use Rattle.std.specs.List.{list_all}
+use Rattle.ini_text.proofs.ReaderLemmas.NoteLemmas.{no_mark_no_note}
 use Rattle.ini_text.proofs.ReaderLemmas.StringReaderLemmas.{no-backslash}
 use Rattle.ini_text.specs.Options.Backslashes.{Backslash}
 use Rattle.ini_text.specs.Options.ReadOptions.{backslash_of}
@@ -21,7 +22,7 @@ use Rattle.ini_text.specs.Grammar.WhiteSpace.{Lead, trimmed, end_trimmed}
 use Rattle.ini_text.specs.Grammar.Strings.{Row, Str, is_endpoint, key_ends, plain_ends}
 use Rattle.ini_text.specs.Grammar.Lines.{Line, Quoted, BeginsPlain}
 use Rattle.ini_text.specs.Grammar.Values.{LineEnd, MoreLines, Value}
-use Rattle.ini_text.specs.Grammar.Keys.{Indentation, KeyFront, begins_key, begins_indented_key}
+use Rattle.ini_text.specs.Grammar.Keys.{Indentation, KeyFront, begins_key, begins_indented_key, begins_note}
 use Rattle.ini_text.specs.Grammar.Positions.{last_or, starts_line, is_column_one}
 use Rattle.ini_text.specs.Grammar.Elements.{Pair, Element}
 use Rattle.ini_text.specs.Laws.Plain.{IsPlainSeparator, IsBareKey, IsIndentedByEscape, IsPlainKey, IsPlainValue, IsPlainPair}
@@ -97,12 +98,13 @@ module _ {o : ParseOption} (policy : EscapePolicy) where
       (or_from (is_whitespace c) (is_comment_mark c) white mark) bracket))
 
   pub bare_indented : {key : List ℕ} (x : List ℕ) → IsBareKey o policy key
-      → BeginsWith begins_indented_key (escaped policy key ++ x)
+      → BeginsWith (begins_indented_key o) (escaped policy key ++ x)
   bare_indented x bare =
-      bare_begins (BeginsWith begins_indented_key) (λ y. refl) policy x bare (λ c y white mark bracket.
-      ap not (or_from _ (eqb c open_bracket)
+      bare_begins (BeginsWith (begins_indented_key o)) (λ y. ap not (no_mark_no_note o backslash refl)) policy x bare
+      (λ c y white mark bracket.
+      ap not (or_from _ (begins_note o c) (or_from _ (eqb c open_bracket)
       (or_from (is_blank c) (is_line_end c) (no_white_no_blank c white)
-      (no_white_no_line_end c white)) bracket))
+      (no_white_no_line_end c white)) bracket) (no_mark_no_note o c mark)))
 
   -- what may follow a multiline value
   follows_multiline : {r : List ℕ} → FollowsPair o policy r → o.enabled_indented_mutiline_value ≡ true
@@ -277,7 +279,7 @@ module _ {o : ParseOption} {policy : EscapePolicy} where
       let first = (and_parts (is_blank c) (list_all is_blank spaces) blanks).0 in
       let ind : Indentation b (c ∷ spaces) =
       record { at_line_start = line_starts b one; some = first; blank = blanks } in
-      let begins : BeginsWith begins_indented_key ((escaped policy key ++ w) ++ m ∷ r) =
+      let begins : BeginsWith (begins_indented_key o) ((escaped policy key ++ w) ++ m ∷ r) =
       rw (append_assoc (escaped policy key) w (m ∷ r)) (bare_indented policy (w ++ m ∷ r) bare) in
       let both = end_trimmed ((c ∷ spaces) ++ (key ++ w)) in
       let key_is : cond o.enabled_preserve_key_leading_whitespace both (trimmed (key ++ w))

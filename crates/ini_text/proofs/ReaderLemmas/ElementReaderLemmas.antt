@@ -1,140 +1,40 @@
 -- Reading an element by the character with which it begins: the reader finds what the grammar says, and the
 -- code gives it.
-use Rattle.std.proofs.Common.{◌≡◌, ◌≢◌, ℕ, Bool, true, false, not, ◌&&◌, ◌||◌, ◌==◌, if◌then◌else◌, List, [], ◌∷◌, ◌++◌, drop, Option, Some, None, inl, inr, refl, sym, ap, ◌∙◌, subst, subst₂, append_assoc, append-nil, chars, eqb-true, ne_eqb}
+use Rattle.std.proofs.Common.{◌≡◌, ◌≢◌, ℕ, true, false, ◌&&◌, ◌||◌, ◌==◌, List, [], ◌∷◌, ◌++◌, drop, Option, Some, None, inl, inr, refl, sym, ap, ◌∙◌, subst, subst₂, append_assoc, append-nil, eqb-true}
 use Rattle.std.proofs.Math.Bool.{or-false}
-use Rattle.std.proofs.lemmas.Bool.{cases_Bool, cond-true, cond-false, and_parts, or_cases, or_parts, not-true, not-false}
+use Rattle.std.proofs.lemmas.Bool.{cases_Bool, cond-true, cond-false, and_parts, or_parts, not-true, not-false}
 use Rattle.std.specs.Char.{is_whitespace}
 use Rattle.std.specs.List.{list_all}
-use Rattle.ini_text.specs.Options.Backslashes.{Backslash}
 use Rattle.ini_text.specs.Options.ReadOptions.{backslash_of}
 use Rattle.ini_text.specs.declared.option.LoneLine.{LoneLine}
 use Rattle.ini_text.specs.declared.option.LoneLine.TheVariants.{RunsOn, Refused}
 use Rattle.ini_text.specs.declared.option.ParseOption.{ParseOption}
-use Rattle.ini_text.specs.declared.parser.fault.Stop.{Stop}
 use Rattle.ini_text.specs.declared.parser.fault.Stop.TheVariants as stops
 use Rattle.ini_text.specs.declared.parser.endpoints.Endpoints.TheVariants as endpoints
 use Rattle.ini_text.specs.declared.error.ParseKind.{ParseKind}
 use Rattle.ini_text.specs.declared.error.ParseKind.TheVariants.{EndOfText, InlineComment}
-use Rattle.ini_text.specs.Grammar.CharacterKinds.{carriage_return, colon, equals, line_feed, open_bracket, close_bracket, is_line_end, is_blank, is_separator, is_comment_mark, BeginsWith, BeginsWithNo}
-use Rattle.ini_text.specs.Grammar.EscapeSequences.{EscapeStops}
+use Rattle.ini_text.specs.Grammar.CharacterKinds.{line_feed, open_bracket, close_bracket, is_line_end, is_blank, is_separator, is_comment_mark, BeginsWith, BeginsWithNo}
 use Rattle.ini_text.specs.Grammar.Positions.{starts_line, is_column_one}
-use Rattle.ini_text.specs.Grammar.WhiteSpace.{trimmed, end_trimmed}
-use Rattle.ini_text.specs.Grammar.Strings.{Ends, is_endpoint, Str, StrStops, name_ends, bracketed_name_ends, key_ends}
+use Rattle.ini_text.specs.Grammar.Strings.{is_endpoint, Str, StrStops, name_ends, bracketed_name_ends, key_ends}
 use Rattle.ini_text.specs.Grammar.Values.{Value, ValueStops}
-use Rattle.ini_text.specs.Grammar.Keys.{Indentation, begins_key, begins_indented_key, KeyFront}
+use Rattle.ini_text.specs.Grammar.Keys.{Indentation, begins_key, begins_indented_key, begins_note, KeyFront}
+use Rattle.ini_text.specs.Grammar.Lines.{Note}
 use Rattle.ini_text.specs.Grammar.Elements.{Given, Gap, Element, ElementStops}
-use Rattle.ini_text.specs.Inside.ElementReader.{after_key, key_string, name_in, header, header_of_name, bracketed_header, after_bracket, pair_of_value, after_separator, trimmed_key, pair_of_key, unindented_pair, dropped_tail, indented_pair_of_key, kept_blanks, indented_pair, after_blanks, is_comment_part, element}
-use Rattle.ini_text.specs.Inside.Reading.{Answer, found, stopped, prepend, altered_answer, StopsBy}
+use Rattle.ini_text.specs.Inside.ElementReader.{after_key, after_mark, key_string, name_in, header, header_of_name, bracketed_header, after_bracket, pair_of_value, after_separator, trimmed_key, pair_of_key, unindented_pair, dropped_tail, indented_pair_of_key, kept_blanks, indented_pair, after_blanks, is_comment_part, element}
+use Rattle.ini_text.specs.Inside.Reading.{Answer, found, stopped, prepend, altered_answer}
 use Rattle.ini_text.specs.Inside.Scans.{run_of, skipped, trimmed_at}
 use Rattle.ini_text.specs.Inside.StringReader.{string}
-use Rattle.ini_text.specs.Inside.ValueReader.{value}
+use Rattle.ini_text.specs.Inside.ValueReader.{is_line_part, value}
 use Rattle.ini_text.specs.Parsing.Fronts.{front_of, IsRest}
 use Rattle.ini_text.proofs.GrammarLemmas.BracketedNameLemmas.{finds_name, name_found, no_name, none_found}
-use Rattle.ini_text.proofs.GrammarLemmas.KindLemmas.{no_white_no_blank, line_end_no_blank, comment_mark-apart}
-use Rattle.ini_text.proofs.ReaderLemmas.ReaderLemmas.{Says, IsReader, prepend-nil}
+use Rattle.ini_text.proofs.GrammarLemmas.KindLemmas.{no_white_no_blank, line_end_no_blank, comment_mark-apart, comment_mark-in_line}
+use Rattle.ini_text.proofs.ReaderLemmas.NoteLemmas.{note_at, note_read}
+use Rattle.ini_text.proofs.ReaderLemmas.ReaderLemmas.{Says, IsReader}
 use Rattle.ini_text.proofs.ReaderLemmas.RunReaderLemmas.{run-finds, run-sound}
-use Rattle.ini_text.proofs.ReaderLemmas.StringReaderLemmas.{StringSays, no_backslash_ends, string-reads}
+use Rattle.ini_text.proofs.ReaderLemmas.StringReaderLemmas.{StringSays, string-reads}
 use Rattle.ini_text.proofs.ReaderLemmas.ValueReaderLemmas.{value-reads}
 use Rattle.ini_text.proofs.StringLemmas.FrontLemmas.{front_is}
-
--- what follows a string that the text's end doesn't end begins with an endpoint
-endpoint_follows : {e : Backslash} {ends : Ends} {s r v : List ℕ} → Str e ends s r v → ends.text ≡ false
-    → (c : ℕ) × (t : List ℕ) × (r ≡ c ∷ t) × (is_endpoint ends c ≡ true)
-endpoint_follows {r = []} (Str.closed row h) n = let z : true ≡ false = sym h ∙ n in cc
-endpoint_follows {r = c ∷ t} (Str.closed row h) n = (c, t, refl, h)
-endpoint_follows (Str.lone sp row h) n = let z : true ≡ false = sym h ∙ n in cc
-
--- a string that meets the text's end leaves nothing
-escape_at_end : {s r : List ℕ} {k : ParseKind} → EscapeStops s r k → k ≡ EndOfText → r ≡ []
-escape_at_end (EscapeStops.cut_short units few) e = refl
-escape_at_end (EscapeStops.cut_in_unit units few) e = refl
-escape_at_end (EscapeStops.broken units few other) e = cc
-escape_at_end (EscapeStops.unknown units four none) e = cc
-
-stopped_at_end : {e : Backslash} {ends : Ends} {s r : List ℕ} {k : ParseKind} → StrStops e ends s r k
-    → k ≡ EndOfText → r ≡ []
-stopped_at_end (StrStops.at_end row h) e = refl
-stopped_at_end (StrStops.after_backslash sp row h) e = refl
-stopped_at_end (StrStops.in_escape row on stop) e = escape_at_end stop e
-
--- the key that a key front gives of its string
-key_value : (kept : Bool) (v : List ℕ)
-    → trimmed_at (not kept) v ≡ (if kept then end_trimmed v else trimmed v)
-key_value true v = refl
-key_value false v = refl
-
-indented_value : (kept : Bool) (w v : List ℕ)
-    → trimmed_at (not kept) ((if kept then w else []) ++ v)
-    ≡ (if kept then end_trimmed (w ++ v) else trimmed v)
-indented_value true w v = refl
-indented_value false w v = refl
-
--- after a key, and where an indented key begins
-pub value_after : (o : ParseOption) (key r : List ℕ) → key ≢ []
-    → after_separator o key r ≡ pair_of_value key (value o r)
-value_after o [] r some = absurd (some refl)
-value_after o (c ∷ key) r some = refl
-
-pub separated : (o : ParseOption) (key : List ℕ) {t r : List ℕ} {c : ℕ} → t ≡ c ∷ r → is_line_end c ≡ false
-    → after_key o key t ≡ after_separator o key r
-separated o key is other = rw (is, other) refl
-
-pub key_at : (o : ParseOption) (w : List ℕ) {t cs : List ℕ} {c : ℕ} → t ≡ c ∷ cs → is_line_end c ≡ false
-    → c ≢ open_bracket → after_blanks o w t ≡ indented_pair o w t
-key_at o w {c = c} is end bracket = rw is (rw (end, ne_eqb c 91 bracket))
-
--- where blanks aren't kept, a key is trimmed at both ends
-pub unkept : (o : ParseOption) (w : List ℕ) (a : Answer ℕ)
-    → o.enabled_preserve_key_leading_whitespace ≡ false
-    → trimmed_key o (prepend (kept_blanks o w) a) ≡ altered_answer (trimmed_at true) a
-unkept o w a off = rw off (ap (altered_answer (trimmed_at true)) (prepend-nil a))
-
--- where keys run on, other stops than the text's end stay; else all
-pub not_dropped : (line : LoneLine) (r : List ℕ) (kind : ParseKind)
-    → (line ≡ RunsOn → kind ≢ EndOfText) → dropped_tail line r kind ≡ stopped r kind
-not_dropped RunsOn r EndOfText other = absurd (other refl refl)
-not_dropped RunsOn r kind other = refl
-not_dropped Refused r kind other = refl
-
--- where lines without separator are refused, each stop stays
-pub refused_stays : (o : ParseOption) (a : Answer ℕ) (stop : Stop) → o.line_without_separator ≡ Refused
-    → StopsBy a stop → StopsBy (indented_pair_of_key o a) stop
-refused_stays o a stops.Memory refuses h = tt
-refused_stays o a (stops.Fault fault) refuses h =
-    ap (indented_pair_of_key o) h
-    ∙ ap (λ l. dropped_tail l (chars fault.rest.now) fault.kind) refuses
-
-pub runs_on : (line : LoneLine) → line ≢ Refused → line ≡ RunsOn
-runs_on RunsOn other = refl
-runs_on Refused other = absurd (other refl)
-
--- a key ends at a separator or at a line end, and not at the text's end
-no_key_at_end : (line : LoneLine) → (key_ends line).text ≡ false
-no_key_at_end RunsOn = refl
-no_key_at_end Refused = refl
-
-key_end_separates : (line : LoneLine) (m : ℕ) → is_endpoint (key_ends line) m ≡ true
-    → is_line_end m ≡ false → is_separator m ≡ true
-key_end_separates RunsOn m ends other = rw (or-false (m == colon)) at ends
-key_end_separates Refused m ends other =
-    at (m == equals) (m == colon) (m == line_feed) (m == carriage_return) ends other
-  where
-    at : (x y l r : Bool) → (x || (y || (l || (r || false)))) ≡ true → (l || r) ≡ false → (x || y) ≡ true
-    at true y l r h k = refl
-    at false true l r h k = refl
-    at false false false false h k = h
-    at false false true r h k = let z : true ≡ false = k in cc
-    at false false false true h k = let z : true ≡ false = k in cc
-
-separator_no_line_end : (m : ℕ) → is_separator m ≡ true → is_line_end m ≡ false
-separator_no_line_end m h = elim (or_cases (m == equals) (m == colon) h)
-    [ inl q ↦ rw (eqb-true m 0x3D q) refl | inr q ↦ rw (eqb-true m 0x3A q) refl ]
-
-pub key_string-reads : (o : ParseOption) → IsReader (Str (backslash_of o) (key_ends o.line_without_separator))
-    (StrStops (backslash_of o) (key_ends o.line_without_separator)) (key_string o)
-key_string-reads o =
-    string-reads (backslash_of o) (key_ends o.line_without_separator)
-    (no_backslash_ends (endpoints.Key o.line_without_separator))
+use Rattle.ini_text.proofs.ReaderLemmas.KeyReaderLemmas.{endpoint_follows, indented_value, key_apart, key_end_separates, key_string-reads, key_value, no_key_at_end, not_dropped, separator_no_line_end, stopped_at_end, value_after}
 
 module _ (o : ParseOption) (b : List ℕ) where
   no_line_start : (c : ℕ) → (is_blank c ≡ true → starts_line b ≡ false)
@@ -216,22 +116,23 @@ module _ (o : ParseOption) (b : List ℕ) where
   unindented_pair-sound t begins (stopped r k) (s, stops, h) =
       (s, ElementStops.in_key (subst (BeginsWith begins_key) (sym h) begins) stops, h)
 
-  indented_pair-sound : (w t : List ℕ) → Indentation b w → BeginsWith begins_indented_key t → (a : Answer ℕ)
+  indented_pair-sound : (w t : List ℕ) → Indentation b w → BeginsWith (begins_indented_key o) t
+      → (a : Answer ℕ)
       → StringSays (backslash_of o) (key_ends o.line_without_separator) t a
       → ElementSays (w ++ t) (indented_pair_of_key o (trimmed_key o (prepend (kept_blanks o w) a)))
   indented_pair-sound w t ind begins (found v r) (s, str, h) =
       subst (λ k. ElementSays (w ++ t) (after_key o k r))
       (sym (indented_value o.enabled_preserve_key_leading_whitespace w v))
       (pair_of_key-sound w
-      _ (λ x q k. KeyFront.indented ind (subst (BeginsWith begins_indented_key) (sym q) begins) k) str h)
+      _ (λ x q k. KeyFront.indented ind (subst (BeginsWith (begins_indented_key o)) (sym q) begins) k) str h)
   indented_pair-sound w t ind begins (stopped r k) (s, stops, h) =
       by o.line_without_separator refl k stops
     where
       whole : (w ++ s) ++ r ≡ w ++ t
       whole = append_assoc w s r ∙ ap (λ y. w ++ y) h
 
-      text : BeginsWith begins_indented_key (s ++ r)
-      text = subst (BeginsWith begins_indented_key) (sym h) begins
+      text : BeginsWith (begins_indented_key o) (s ++ r)
+      text = subst (BeginsWith (begins_indented_key o)) (sym h) begins
 
       refused : (k : ParseKind) → StrStops (backslash_of o) (key_ends o.line_without_separator) s r k
           → (o.line_without_separator ≡ RunsOn → k ≢ EndOfText) → ElementSays (w ++ t) (stopped r k)
@@ -249,6 +150,17 @@ module _ (o : ParseOption) (b : List ℕ) where
       by Refused refuses k stops =
           refused k stops (λ runs. let z : RunsOn ≡ Refused = sym runs ∙ refuses in cc)
 
+  note-sound : (w : List ℕ) (c : ℕ) (cs : List ℕ) → Indentation b w → begins_note o c ≡ true
+      → ElementSays (w ++ c ∷ cs) (found [] (skipped is_line_part cs))
+  note-sound w c cs ind begins =
+      let two = and_parts o.enabled_indented_comment (is_comment_mark c) begins in
+      let n = c ∷ run_of is_line_part cs in (
+        w ++ n,
+        Element.indented_comment two.0 ind (note_at c cs two.1),
+        append_assoc w n (skipped is_line_part cs)
+            ∙ ap (λ y. w ++ c ∷ y) (run-sound is_line_part cs).whole,
+      )
+
   after_blanks-sound : (w t : List ℕ) → Indentation b w → BeginsWithNo is_blank t
       → ElementSays (w ++ t) (after_blanks o w t)
   after_blanks-sound w [] ind other = (w, Element.dropped_blanks ind, refl)
@@ -256,8 +168,11 @@ module _ (o : ParseOption) (b : List ℕ) where
     | inl h ↦ rw h (w ++ c ∷ [], Element.gap (Gap.blank_line c ind h), append_assoc w (c ∷ []) cs)
     | inr n ↦ elim (cases_Bool (c == open_bracket)) [
       | inl q ↦ rw (eqb-true c 91 q) (w, Element.gap (Gap.before_header ind), refl)
-      | inr m ↦ rw (n, m) (indented_pair-sound w (c ∷ cs) ind (rw (other, n, m) refl)
-          (key_string o (c ∷ cs)) (key-reads.sound (c ∷ cs)))
+      | inr m ↦ elim (cases_Bool (begins_note o c)) [
+        | inl g ↦ rw (n, m, g) (note-sound w c cs ind g)
+        | inr g ↦ rw (n, m, g) (indented_pair-sound w (c ∷ cs) ind (rw (other, n, m, g) refl)
+            (key_string o (c ∷ cs)) (key-reads.sound (c ∷ cs)))
+      ]
     ]
   ]
 
@@ -320,16 +235,42 @@ module _ (o : ParseOption) (b : List ℕ) where
         ap (λ y. c ∷ y) (append_assoc s (line_feed ∷ []) rest),
       )
 
+  -- after a mark, by where it stands
+  comment_there : (cs : List ℕ) → is_column_one b ≡ true
+      → after_mark o b cs ≡ found [] (drop 1 (skipped is_comment_part cs))
+  comment_there cs one = cond-true (is_column_one b) _ _ one
+
+  note_there : (cs : List ℕ) → is_column_one b ≡ false
+      → (o.enabled_indented_comment && starts_line b) ≡ true
+      → after_mark o b cs ≡ found [] (skipped is_line_part cs)
+  note_there cs late h = cond-false (is_column_one b) _ _ late ∙ cond-true _ _ _ h
+
+  none_there : (cs : List ℕ) → is_column_one b ≡ false
+      → (o.enabled_indented_comment && starts_line b) ≡ false
+      → after_mark o b cs ≡ stopped cs InlineComment
+  none_there cs late h = cond-false (is_column_one b) _ _ late ∙ cond-false _ _ _ h
+
   mark-sound : (c : ℕ) (cs : List ℕ) → is_comment_mark c ≡ true
-      → ElementSays (c ∷ cs) (if is_column_one b then found [] (drop 1 (skipped is_comment_part cs))
-      else stopped cs InlineComment)
+      → ElementSays (c ∷ cs) (after_mark o b cs)
   mark-sound c cs mark = elim (cases_Bool (is_column_one b)) [
     | inl one ↦
         let split = run-sound is_comment_part cs in
         let rest = skipped is_comment_part cs in
-        rw one (subst (λ y. ElementSays (c ∷ y) (found [] (drop 1 rest))) split.whole
+        subst (ElementSays (c ∷ cs)) (sym (comment_there cs one))
+        (subst (λ y. ElementSays (c ∷ y) (found [] (drop 1 rest))) split.whole
         (comment-sound c (run_of is_comment_part cs) rest one mark split.all split.ends))
-    | inr late ↦ rw late (c ∷ [], ElementStops.late_comment mark late, refl)
+    | inr late ↦ elim (cases_Bool (o.enabled_indented_comment && starts_line b)) [
+      | inl h ↦
+          let two = and_parts o.enabled_indented_comment (starts_line b) h in
+          subst (ElementSays (c ∷ cs)) (sym (note_there cs late h)) (
+            c ∷ run_of is_line_part cs,
+            Element.comment_after_cr two.0 two.1 late (note_at c cs mark),
+            ap (λ y. c ∷ y) (run-sound is_line_part cs).whole,
+          )
+      | inr n ↦
+          subst (ElementSays (c ∷ cs)) (sym (none_there cs late n))
+          (c ∷ [], ElementStops.late_comment mark late (λ on. rw on at n), refl)
+    ]
   ]
 
   blanks-sound : (c : ℕ) (cs : List ℕ) → is_blank c ≡ true → starts_line b ≡ true
@@ -371,13 +312,13 @@ module _ (o : ParseOption) (b : List ℕ) where
       cond-true (is_blank c && starts_line b) _ _ (rw (ind.some, ind.at_line_start) refl)
       ∙ rw (split.0, split.1) refl
 
-  element-indented_pair : {w : List ℕ} (t : List ℕ) → Indentation b w → BeginsWith begins_indented_key t
+  element-indented_pair : {w : List ℕ} (t : List ℕ) → Indentation b w
+      → BeginsWith (begins_indented_key o) t
       → element o b (w ++ t) ≡ indented_pair o w t
   element-indented_pair [] ind begins = cc
   element-indented_pair (c ∷ t) ind begins =
-      let x = or_parts (is_blank c || is_line_end c) (c == open_bracket) (not-true _ begins) in
-      let y = or_parts (is_blank c) (is_line_end c) x.0 in
-      rw (element-blanks (c ∷ t) ind y.0, y.1, x.1)
+      let x = key_apart o c begins in
+      rw (element-blanks (c ∷ t) ind x.blank, x.line_end, x.bracket, x.note)
 
   element-unindented_pair : (t : List ℕ) → BeginsWith begins_key t → element o b t ≡ unindented_pair o t
   unfolding element
@@ -421,6 +362,28 @@ module _ (o : ParseOption) (b : List ℕ) where
         (run-finds is_comment_part s r all other).1,
       )
 
+  element-indented_comment : {w s r : List ℕ} → o.enabled_indented_comment ≡ true → Indentation b w
+      → Note s r → element o b ((w ++ s) ++ r) ≡ found [] r
+  element-indented_comment {w} {r = r} on ind (Note.note {m} {s} mark all closes) =
+      let kinds = comment_mark-in_line m mark in
+      rw (
+        append_assoc w (m ∷ s) r,
+        element-blanks (m ∷ (s ++ r)) ind (comment_mark-apart m mark).0,
+        kinds.0,
+        kinds.1,
+        on,
+        mark,
+        note_read {m = m} {s = s} {r = r} (Note.note mark all closes),
+      )
+
+  element-comment_after_cr : {s r : List ℕ} → o.enabled_indented_comment ≡ true → starts_line b ≡ true
+      → is_column_one b ≡ false → Note s r → element o b (s ++ r) ≡ found [] r
+  unfolding element
+  element-comment_after_cr {r = r} on start late (Note.note {m} {s} mark all closes) =
+      let apart = comment_mark-apart m mark in
+      rw (apart.0, apart.1, mark) (note_there (s ++ r) late (rw (on, start) refl)
+      ∙ ap (found []) (note_read {m = m} {s = s} {r = r} (Note.note mark all closes)))
+
   pub element-finds : {s r : List ℕ} {gives : List Given} → Element o b s r gives
       → element o b (s ++ r) ≡ found gives r
   unfolding element
@@ -428,6 +391,8 @@ module _ (o : ParseOption) (b : List ℕ) where
   element-finds {r = r} (Element.comment {m} s one mark all) =
       rw (append_assoc s (line_feed ∷ []) r) (element-comment m s (line_feed ∷ r) one mark all refl)
   element-finds (Element.last_comment {m} {s} one mark all) = element-comment m s [] one mark all tt
+  element-finds (Element.indented_comment on ind noted) = element-indented_comment on ind noted
+  element-finds (Element.comment_after_cr on start late noted) = element-comment_after_cr on start late noted
   element-finds {r = r} (Element.header {s} off str) =
       rw (off, append_assoc s (close_bracket ∷ []) r, name-reads.finds str)
   element-finds (Element.bracketed_header on str i) = rw (on, line-reads.finds str, finds_name i)
@@ -468,8 +433,11 @@ module _ (o : ParseOption) (b : List ℕ) where
         value_after o key (s ++ r) some,
         (value-reads o).stops stops,
       )
-  element-stops (ElementStops.late_comment {m} mark late) =
-      let apart = comment_mark-apart m mark in rw (apart.0, apart.1, mark, late)
+  element-stops (ElementStops.late_comment {m} mark late within) =
+      let apart = comment_mark-apart m mark in
+      let none : (o.enabled_indented_comment && starts_line b) ≡ false =
+      elim (cases_Bool o.enabled_indented_comment) [ inl on ↦ rw (on, within on) refl | inr off ↦ rw off refl ] in
+      rw (apart.0, apart.1, mark) (none_there _ late none)
 
   -- what the reader answers at a text that isn't at its end
   pub element-says : {t cs : List ℕ} {c : ℕ} {a : Answer Given} → t ≡ c ∷ cs → element o b t ≡ a

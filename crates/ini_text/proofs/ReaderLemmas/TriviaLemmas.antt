@@ -5,154 +5,247 @@ use Rattle.std.specs.Char.{is_whitespace}
 use Rattle.std.specs.List.{list_all}
 use Rattle.ini_text.specs.Grammar.CharacterKinds.{line_feed, is_blank, is_comment_mark, is_line_end, BeginsWithNo}
 use Rattle.ini_text.specs.Grammar.Elements.{Gap, Element}
-use Rattle.ini_text.specs.Grammar.Keys.{Indentation}
+use Rattle.ini_text.specs.Grammar.Keys.{Indentation, begins_note}
+use Rattle.ini_text.specs.Grammar.Lines.{Note}
 use Rattle.ini_text.specs.Grammar.Positions.{starts_line, is_column_one}
 use Rattle.ini_text.specs.Inside.ElementReader.{is_comment_part}
+use Rattle.ini_text.specs.Inside.PlainTests.{begins}
 use Rattle.ini_text.specs.Inside.Scans.{run_of, skipped}
-use Rattle.ini_text.specs.Inside.TriviaSearch.{past_first, past_line_end, after_line_feed}
+use Rattle.ini_text.specs.Inside.TriviaSearch.{past_end, past_first, past_line_end, after_line_feed}
+use Rattle.ini_text.specs.Inside.ValueReader.{is_line_part}
 use Rattle.ini_text.specs.Parsing.Fronts.{front_of, IsRest}
 use Rattle.ini_text.specs.Parsing.Trivia.{IsTrivia, BeginsWithNoTrivia, AreTrivia, SkipsTrivia}
 use Rattle.ini_text.specs.declared.option.ParseOption.{ParseOption}
-use Rattle.ini_text.proofs.GrammarLemmas.ItemLemmas.{element-some}
-use Rattle.ini_text.proofs.GrammarLemmas.KindLemmas.{blank_is_white, comment_mark-apart, line_end_no_blank}
+use Rattle.ini_text.proofs.GrammarLemmas.KindLemmas.{blank_is_white, comment_mark-apart, comment_mark-in_line, line_end_no_blank}
+use Rattle.ini_text.proofs.LawLemmas.OneAheadLemmas.{Alike, Note-alike}
 use Rattle.ini_text.proofs.StringLemmas.FrontLemmas.{front_grows}
+use Rattle.ini_text.proofs.ReaderLemmas.NoteLemmas.{no_mark_no_note, note_read, past_mark, some_note}
 use Rattle.ini_text.proofs.ReaderLemmas.RunReaderLemmas.{run-finds, run-sound}
 
-module _ (b : List ℕ) where
-  -- what stands before any text is one of three
-  data Kind : List ℕ → Type 0 where
-    blank_line : {w : List ℕ} (c : ℕ) → Indentation b w → is_line_end c ≡ true → Kind (w ++ c ∷ [])
-    white : {c : ℕ} → is_whitespace c ≡ true → (is_blank c ≡ true → starts_line b ≡ false) → Kind (c ∷ [])
-    comment : {m : ℕ} (s : List ℕ) → is_column_one b ≡ true → is_comment_mark m ≡ true
-        → list_all is_comment_part s ≡ true → Kind (m ∷ (s ++ line_feed ∷ []))
+module _ (o : ParseOption) where
+  -- what is left of a line is its end, or a note and its end; `after` follows that
+  data EndsLine : List ℕ → List ℕ → Type 0 where
+    bare : {c : ℕ} {after : List ℕ} → is_line_end c ≡ true → EndsLine (c ∷ after) after
+    marked : {m c : ℕ} {s after : List ℕ} → o.enabled_indented_comment ≡ true → is_line_end c ≡ true
+        → Note (m ∷ s) (c ∷ after) → EndsLine (m ∷ (s ++ c ∷ after)) after
 
-  kind : {o : ParseOption} {s : List ℕ} → Element o b s (0x61 ∷ []) [] → Kind s
-  kind (Element.gap (Gap.blank_line c ind h)) = blank_line c ind h
-  kind (Element.gap (Gap.white h n)) = white h n
-  kind (Element.comment s one mark all) = comment s one mark all
+  ends_line-finds : {t after : List ℕ} → EndsLine t after → past_line_end o t ≡ Some after
+  ends_line-finds (EndsLine.bare {c} h) = rw (line_end_no_note c h, h) refl
+    where
+      line_end_no_note : (c : ℕ) → is_line_end c ≡ true → begins_note o c ≡ false
+      line_end_no_note c h = elim (cases_Bool (is_comment_mark c)) [
+        | inl mark ↦ absurd (false≢true (sym (comment_mark-in_line c mark).0 ∙ h))
+        | inr n ↦ no_mark_no_note o c n
+      ]
+  ends_line-finds (EndsLine.marked {m} {c} {s} {after} on h (Note.note mark all closes)) =
+      rw (on, mark, past_mark m (s ++ c ∷ after) mark, note_read {m = m} (Note.note mark all closes), h) refl
 
-  -- the first of the trivia with which a text begins
-  pub record IsAfter (t after : List ℕ) : Type 0 where
-    pub source : List ℕ
-    pub whole : t ≡ source ++ after
-    pub some : 1 ≤ length source
-    pub trivia : (o : ParseOption) → IsTrivia o b source
+  no_blank_there : {t after : List ℕ} → EndsLine t after → BeginsWithNo is_blank t
+  no_blank_there (EndsLine.bare {c} h) = line_end_no_blank c h
+  no_blank_there (EndsLine.marked {m} on h (Note.note mark all closes)) = (comment_mark-apart m mark).0
 
-  abbrev pub BeginsNone : List ℕ → Type 0
-  BeginsNone t = (o : ParseOption) → BeginsWithNoTrivia o b t
+  module _ (b : List ℕ) where
+    -- the trivia with which a text begins
+    data First : List ℕ → Type 0 where
+      line : {w t after : List ℕ} → Indentation b w → EndsLine t after → First (w ++ t)
+      after_cr : {m c : ℕ} {s after : List ℕ} → o.enabled_indented_comment ≡ true → starts_line b ≡ true
+          → is_column_one b ≡ false → is_line_end c ≡ true → Note (m ∷ s) (c ∷ after)
+          → First (m ∷ (s ++ c ∷ after))
+      white : {c : ℕ} (t : List ℕ) → is_whitespace c ≡ true → (is_blank c ≡ true → starts_line b ≡ false)
+          → First (c ∷ t)
+      comment : {m : ℕ} (s t : List ℕ) → is_column_one b ≡ true → is_comment_mark m ≡ true
+          → list_all is_comment_part s ≡ true → First (m ∷ (s ++ line_feed ∷ t))
 
-  -- no such stands before a character that is neither white nor a comment's mark in column one
-  no_first : (c : ℕ) (cs s r : List ℕ) → is_whitespace c ≡ false
-      → (is_comment_mark c && is_column_one b) ≡ false
-      → Kind s → c ∷ cs ≡ s ++ r → ⊥
-  no_first c cs s r n m (blank_line {w = []} e ind h) q = let none = ind.some in cc
-  no_first c cs s r n m (blank_line {w = d ∷ w} e ind h) q =
-      let same : c ≡ d = cc in false≢true (sym n ∙ rw same (blank_is_white d ind.some))
-  no_first c cs s r n m (white {c = d} h k) q = let same : c ≡ d = cc in false≢true (sym n ∙ rw same h)
-  no_first c cs s r n m (comment {m = d} t one mark all) q =
-      let same : c ≡ d = cc in false≢true (sym m ∙ rw (same, mark, one) refl)
+    gap_first : {s x : List ℕ} (r : List ℕ) → Gap b s (0x61 ∷ x) → First (s ++ r)
+    gap_first r (Gap.blank_line {w} c ind h) =
+        subst First (sym (append_assoc w (c ∷ []) r)) (First.line ind (EndsLine.bare {after = r} h))
+    gap_first r (Gap.white h n) = First.white r h n
 
-  -- nor where blanks begin a line that isn't empty
-  no_blank_line : (w rest s r : List ℕ) → Indentation b w → BeginsWithNo is_blank rest
-      → BeginsWithNo is_line_end rest
-      → Kind s → w ++ rest ≡ s ++ r → ⊥
-  no_blank_line [] rest s r ind other filled k q = let none = ind.some in cc
-  no_blank_line (x ∷ w) rest s r ind other filled (blank_line {w = v} c i h) q =
-      let left = (run-finds is_blank (x ∷ w) rest ind.blank other).1 in
-      let right = (run-finds is_blank v (c ∷ r) i.blank (line_end_no_blank c h)).1 in
-      let same : rest ≡ c ∷ r = sym left ∙ ap (skipped is_blank) (q ∙ append_assoc v (c ∷ []) r) ∙ right in
-      false≢true (sym (subst (BeginsWithNo is_line_end) same filled) ∙ h)
-  no_blank_line (x ∷ w) rest s r ind other filled (white {c = d} h n) q =
-      let same : x ≡ d = cc in false≢true (sym (n (rw (sym same) ind.some)) ∙ ind.at_line_start)
-  no_blank_line (x ∷ w) rest s r ind other filled (comment {m = d} t one mark all) q =
-      let same : x ≡ d = cc in false≢true (sym (comment_mark-apart d mark).0 ∙ rw (sym same) ind.some)
+    comment_first : {m : ℕ} (s r : List ℕ) → is_column_one b ≡ true → is_comment_mark m ≡ true
+        → list_all is_comment_part s ≡ true → First ((m ∷ (s ++ line_feed ∷ [])) ++ r)
+    comment_first {m} s r one mark all =
+        subst (λ t. First (m ∷ t)) (sym (append_assoc s (line_feed ∷ []) r)) (First.comment s r one mark all)
 
-  -- nor where a comment ends the text
-  no_line_feed : (c : ℕ) (w s r : List ℕ) → is_comment_mark c ≡ true → list_all is_comment_part w ≡ true
-      → Kind s → c ∷ (w ++ []) ≡ s ++ r → ⊥
-  no_line_feed c w s r mark all (blank_line {w = []} e ind h) q = let none = ind.some in cc
-  no_line_feed c w s r mark all (blank_line {w = d ∷ v} e ind h) q =
-      let same : c ≡ d = cc in false≢true (sym (comment_mark-apart c mark).0 ∙ rw same ind.some)
-  no_line_feed c w s r mark all (white {c = d} h k) q =
-      let same : c ≡ d = cc in false≢true (sym (comment_mark-apart c mark).1 ∙ rw same h)
-  no_line_feed c w s r mark all (comment {m = d} t one marks parts) q =
-      let tails : w ++ [] ≡ (t ++ line_feed ∷ []) ++ r = cc in
-      let left = (run-finds is_comment_part w [] all tt).1 in
-      let right = (run-finds is_comment_part t (line_feed ∷ r) parts refl).1 in
-      let same : [] ≡ line_feed ∷ r =
-      sym left ∙ ap (skipped is_comment_part) (tails ∙ append_assoc t (line_feed ∷ []) r) ∙ right in
-      cc
+    anywhere_first : {s : List ℕ} (r : List ℕ) → Element o b s (0x61 ∷ []) [] → First (s ++ r)
+    anywhere_first r (Element.gap g) = gap_first r g
+    anywhere_first r (Element.comment s one mark all) = comment_first s r one mark all
+    anywhere_first r (Element.indented_comment on ind (Note.note mark all closes)) =
+        absurd (false≢true closes)
+    anywhere_first r (Element.comment_after_cr on start late (Note.note mark all closes)) =
+        absurd (false≢true closes)
 
-  blanks-say : (w rest : List ℕ) → Indentation b w → BeginsWithNo is_blank rest
-      → MatchOption (past_line_end rest) (BeginsNone (w ++ rest)) (λ after. IsAfter (w ++ rest) after)
-  blanks-say w [] ind other = λ o s r q t. no_blank_line w [] s r ind tt tt (kind (t (0x61 ∷ []))) q
-  blanks-say w (c ∷ cs) ind other = elim (cases_Bool (is_line_end c)) [
-    | inl h ↦ rw h (record {
+    before_end_first : {s : List ℕ} {c : ℕ} (r : List ℕ) → is_line_end c ≡ true → Element o b s (c ∷ r) []
+        → First (s ++ c ∷ r)
+    before_end_first {c = c} r end (Element.gap (Gap.blank_line {w} d ind h)) =
+        subst First (sym (append_assoc w (d ∷ []) (c ∷ r))) (First.line ind (EndsLine.bare {after = c ∷ r} h))
+    before_end_first r end (Element.gap (Gap.before_header ind)) = absurd (false≢true end)
+    before_end_first {c = c} r end (Element.gap (Gap.white h n)) = First.white (c ∷ r) h n
+    before_end_first {c = c} r end (Element.comment s one mark all) = comment_first s (c ∷ r) one mark all
+    before_end_first {c = c} r end (Element.indented_comment {w} on ind (Note.note {m} {s} mark all closes)) =
+        subst First (sym (append_assoc w (m ∷ s) (c ∷ r)))
+        (First.line ind (EndsLine.marked {after = r} on end (Note.note mark all closes)))
+    before_end_first {c = c} r end
+        (Element.comment_after_cr on start late (Note.note {m} {s} mark all closes)) =
+        First.after_cr {after = r} on start late end (Note.note mark all closes)
+
+    first : {s : List ℕ} (r : List ℕ) → IsTrivia o b s → First (s ++ r)
+    first r (IsTrivia.element e) = anywhere_first r (e (0x61 ∷ []))
+    first r (IsTrivia.line {s} {c} end e) =
+        subst First (sym (append_assoc s (c ∷ []) r)) (before_end_first r end (e r))
+
+    -- the code finds them
+    first-finds : {t : List ℕ} → First t → (after : List ℕ) × (past_first o b t ≡ Some after)
+    first-finds (First.line {w = []} ind rest) = let none = ind.some in cc
+    first-finds (First.line {w = c ∷ w} {t} {after} ind rest) =
+        let blank : list_all is_blank w ≡ true = (and_parts (is_blank c) (list_all is_blank w) ind.blank).1 in (
+          after,
+          rw (ind.some, ind.at_line_start, (run-finds is_blank w t blank (no_blank_there rest)).1)
+              (ends_line-finds rest),
+        )
+    first-finds (First.after_cr {m} {c} {s} {after} on start late end (Note.note mark all closes)) =
+        let apart = comment_mark-apart m mark in
+        let rest : past_line_end o (m ∷ (s ++ c ∷ after)) ≡ Some after =
+        ends_line-finds (EndsLine.marked {m = m} {c = c} {s = s} on end (Note.note mark all closes)) in
+        (after, rw (start, late, mark, apart.0, apart.1, on) (rw (mark, on) at rest))
+    first-finds (First.white {c} t h n) =
+        let apart : (is_blank c && starts_line b) ≡ false = elim (cases_Bool (is_blank c))
+        [ inl q ↦ rw (q, n q) refl | inr q ↦ rw q refl ] in
+        (t, rw (apart, h) refl)
+    first-finds (First.comment {m} s t one mark all) =
+        let apart = comment_mark-apart m mark in
+        (t, rw (apart.0, apart.1, mark, one, (run-finds is_comment_part s (line_feed ∷ t) all refl).1) refl)
+
+    none_first : (t : List ℕ) → past_first o b t ≡ None → BeginsWithNoTrivia o b t
+    none_first t none s r q trivia =
+        let (after, some) = first-finds (subst First (sym q) (first r trivia)) in
+        let z : None ≡ Some after = sym none ∙ some in cc
+
+    -- the first of the trivia with which a text begins
+    pub record IsAfter (t after : List ℕ) : Type 0 where
+      pub source : List ℕ
+      pub whole : t ≡ source ++ after
+      pub some : 1 ≤ length source
+      pub trivia : IsTrivia o b source
+
+    -- what is found ends a line
+    end_found : (t : List ℕ) {after : List ℕ} → past_line_end o t ≡ Some after → EndsLine t after
+    end_found t {after} is = elim (cases_Bool (begins (begins_note o) t)) [
+      | inl h ↦ with_note (some_note o t h) (rw h at is)
+      | inr n ↦ at_end t (rw n at is)
+    ]
+      where
+        at_end : (t : List ℕ) → past_end t ≡ Some after → EndsLine t after
+        at_end [] is = let z : None ≡ Some after = is in cc
+        at_end (c ∷ cs) is = elim (cases_Bool (is_line_end c)) [
+          | inl h ↦ let z : Some cs ≡ Some after = rw h at is in let same : cs ≡ after = cc in
+              subst (λ y. EndsLine (c ∷ y) after) (sym same) (EndsLine.bare h)
+          | inr n ↦ let z : None ≡ Some after = rw n at is in cc
+        ]
+
+        with_note : (o.enabled_indented_comment ≡ true) × (n : List ℕ) × Note n (skipped is_line_part t)
+            × (n ++ skipped is_line_part t ≡ t) → past_end (skipped is_line_part t) ≡ Some after
+            → EndsLine t after
+        with_note (on, n, noted, whole) is = subst (λ y. EndsLine y after) whole (at on noted (skipped is_line_part t) refl is)
+          where
+            at : {n : List ℕ} → o.enabled_indented_comment ≡ true → Note n (skipped is_line_part t)
+                → (r : List ℕ) → skipped is_line_part t ≡ r → past_end r ≡ Some after
+                → EndsLine (n ++ skipped is_line_part t) after
+            at on (Note.note mark all closes) [] q is = let z : None ≡ Some after = is in cc
+            at on (Note.note {m} {s} mark all closes) (c ∷ cs) q is = elim (cases_Bool (is_line_end c)) [
+              | inl h ↦ let z : Some cs ≡ Some after = rw h at is in let same : cs ≡ after = cc in
+                  let rest : skipped is_line_part t ≡ c ∷ after = q ∙ ap (λ y. c ∷ y) same in
+                  subst (λ y. EndsLine (m ∷ (s ++ y)) after) (sym rest)
+                  (EndsLine.marked on h (subst (Note (m ∷ s)) rest (Note.note mark all closes)))
+              | inr n ↦ let z : None ≡ Some after = rw n at is in cc
+            ]
+
+    line_after : {w t after : List ℕ} → Indentation b w → EndsLine t after → IsAfter (w ++ t) after
+    line_after {w} {after = after} ind (EndsLine.bare {c} h) = record {
       source = w ++ c ∷ [];
-      whole = sym (append_assoc w (c ∷ []) cs);
-      some =
-          omega (arith, length-append w (c ∷ []));
-      trivia = λ o r. Element.gap (Gap.blank_line c ind h);
-    })
-    | inr n ↦ rw n (λ o s r q t. no_blank_line w (c ∷ cs) s r ind other n (kind (t (0x61 ∷ []))) q)
-  ]
+      whole = sym (append_assoc w (c ∷ []) after);
+      some = omega (arith, length-append w (c ∷ []));
+      trivia = IsTrivia.element (λ r. Element.gap (Gap.blank_line c ind h));
+    }
+    line_after {w} {after = after} ind (EndsLine.marked {m} {c} {s} on h noted) = record {
+      source = (w ++ m ∷ s) ++ c ∷ [];
+      whole =
+          sym (append_assoc (w ++ m ∷ s) (c ∷ []) after ∙ append_assoc w (m ∷ s) (c ∷ after));
+      some = omega (arith, length-append (w ++ m ∷ s) (c ∷ []));
+      trivia = IsTrivia.line h (λ r. Element.indented_comment on ind (Note-alike Alike.same noted));
+    }
 
-  comment-says : (c : ℕ) (w rest : List ℕ) → is_column_one b ≡ true → is_comment_mark c ≡ true
-      → list_all is_comment_part w ≡ true
-      → BeginsWithNo is_comment_part rest
-      → MatchOption (after_line_feed rest) (BeginsNone (c ∷ (w ++ rest)))
-      (λ after. IsAfter (c ∷ (w ++ rest)) after)
-  comment-says c w [] one mark all other =
-      λ o s r q t. no_line_feed c w s r mark all (kind (t (0x61 ∷ []))) q
-  comment-says c w (l ∷ rest) one mark all other =
-      let feed : l ≡ line_feed = eqb-true l 10 (not-false (l == line_feed) other) in
-      rw feed (record {
-        source = c ∷ (w ++ line_feed ∷ []);
-        whole = ap (λ y. c ∷ y) (sym (append_assoc w (line_feed ∷ []) rest));
-        some = omega arith;
-        trivia = λ o r. Element.comment w one mark all;
-      })
-
-  first-says : (t : List ℕ) → MatchOption (past_first b t) (BeginsNone t) (λ after. IsAfter t after)
-  first-says [] = λ o s r q t. omega (arith, element-some (t []), ap length q, length-append s r)
-  first-says (c ∷ cs) = elim (cases_Bool (is_blank c && starts_line b)) [
-    | inl h ↦
-        let two = and_parts (is_blank c) (starts_line b) h in
-        let split = run-sound is_blank cs in
-        let w = c ∷ run_of is_blank cs in
-        let rest = skipped is_blank cs in
-        let ind : Indentation b w =
-        record { at_line_start = two.1; some = two.0; blank = rw (two.0, split.all) refl } in
-        rw h
-        (subst
-        (λ y. MatchOption (past_line_end rest) (BeginsNone (c ∷ y)) (λ after. IsAfter (c ∷ y) after))
-        split.whole
-        (blanks-say w rest ind split.ends))
-    | inr n ↦ elim (cases_Bool (is_whitespace c)) [
-      | inl w ↦ rw (n, w) (record {
-        source = c ∷ [];
-        whole = refl;
-        some = omega arith;
-        trivia =
-            λ o r. Element.gap (Gap.white {c = c} w (λ h. rw h at n));
-      })
-      | inr x ↦ elim (cases_Bool (is_comment_mark c && is_column_one b)) [
-        | inl m ↦
-            let two = and_parts (is_comment_mark c) (is_column_one b) m in
-            let split = run-sound is_comment_part cs in
-            let rest = skipped is_comment_part cs in
-            rw (n, x, m) (subst (λ y. MatchOption (after_line_feed rest) (BeginsNone (c ∷ y))
-            (λ after. IsAfter (c ∷ y) after)) split.whole
-            (comment-says c (run_of is_comment_part cs) rest two.1 two.0 split.all split.ends))
-        | inr m ↦ rw (n, x, m) (λ o s r q t. no_first c cs s r x m (kind (t (0x61 ∷ []))) q)
+    found_after : {c : ℕ} (cs : List ℕ) {after : List ℕ} → past_first o b (c ∷ cs) ≡ Some after
+        → IsAfter (c ∷ cs) after
+    found_after {c} cs {after} is = elim (cases_Bool (is_blank c && starts_line b)) [
+      | inl h ↦
+          let two = and_parts (is_blank c) (starts_line b) h in
+          let split = run-sound is_blank cs in
+          let ind : Indentation b (c ∷ run_of is_blank cs) =
+          record { at_line_start = two.1; some = two.0; blank = rw (two.0, split.all) refl } in
+          subst (λ y. IsAfter (c ∷ y) after) split.whole
+          (line_after ind (end_found (skipped is_blank cs) (rw h at is)))
+      | inr n ↦ elim (cases_Bool (is_whitespace c)) [
+        | inl w ↦
+            let z : Some cs ≡ Some after = rw (n, w) at is in
+            let same : cs ≡ after = cc in
+            subst (λ y. IsAfter (c ∷ cs) y) same (record {
+              source = c ∷ [];
+              whole = refl;
+              some = omega arith;
+              trivia = IsTrivia.element (λ r. Element.gap (Gap.white {c = c} w (λ h. rw h at n)));
+            })
+        | inr x ↦ elim (cases_Bool (is_comment_mark c && is_column_one b)) [
+          | inl m ↦
+              let two = and_parts (is_comment_mark c) (is_column_one b) m in
+              let split = run-sound is_comment_part cs in
+              subst (λ y. IsAfter (c ∷ y) after) split.whole
+              (commented (run_of is_comment_part cs) (skipped is_comment_part cs) two.1 two.0 split.all
+              split.ends (rw (n, x, m) at is))
+          | inr m ↦ elim (cases_Bool (starts_line b && begins_note o c)) [
+            | inl h ↦ returned (and_parts (starts_line b) (begins_note o c) h).0 m
+                (and_parts (starts_line b) (begins_note o c) h).1
+                (end_found (c ∷ cs) (rw (n, x, m, h) at is))
+            | inr k ↦ let z : None ≡ Some after = rw (n, x, m, k) at is in cc
+          ]
+        ]
       ]
     ]
-  ]
+      where
+        commented : (w rest : List ℕ) → is_column_one b ≡ true → is_comment_mark c ≡ true
+            → list_all is_comment_part w ≡ true → BeginsWithNo is_comment_part rest
+            → after_line_feed rest ≡ Some after → IsAfter (c ∷ (w ++ rest)) after
+        commented w [] one mark all other is = let z : None ≡ Some after = is in cc
+        commented w (l ∷ rest) one mark all other is =
+            let feed : l ≡ line_feed = eqb-true l 10 (not-false (l == line_feed) other) in
+            let same : rest ≡ after = cc in
+            rw (feed, same) (record {
+              source = c ∷ (w ++ line_feed ∷ []);
+              whole = ap (λ y. c ∷ y) (sym (append_assoc w (line_feed ∷ []) after));
+              some = omega arith;
+              trivia = IsTrivia.element (λ r. Element.comment w one mark all);
+            })
 
-  -- by what the code finds
-  pub first-is : (t : List ℕ) {r : Option (List ℕ)} → past_first b t ≡ r
-      → MatchOption r (BeginsNone t) (λ after. IsAfter t after)
-  first-is t e = subst (λ r. MatchOption r (BeginsNone t) (λ after. IsAfter t after)) e (first-says t)
+        returned : {t : List ℕ} → starts_line b ≡ true → (is_comment_mark c && is_column_one b) ≡ false
+            → begins_note o c ≡ true → EndsLine (c ∷ t) after → IsAfter (c ∷ t) after
+        returned start late begins (EndsLine.bare h) =
+            let mark = (and_parts o.enabled_indented_comment (is_comment_mark c) begins).1 in
+            absurd (false≢true (sym (comment_mark-in_line c mark).0 ∙ h))
+        returned start late begins (EndsLine.marked {c = e} {s = s} on h noted) =
+            let mark = (and_parts o.enabled_indented_comment (is_comment_mark c) begins).1 in
+            record {
+              source = (c ∷ s) ++ e ∷ [];
+              whole = ap (λ y. c ∷ y) (sym (append_assoc s (e ∷ []) after));
+              some = omega arith;
+              trivia = IsTrivia.line h (λ r. Element.comment_after_cr on start (rw mark at late)
+                  (Note-alike Alike.same noted));
+            }
+
+    -- by what the code finds
+    pub first-is : (t : List ℕ) {r : Option (List ℕ)} → past_first o b t ≡ r
+        → MatchOption r (BeginsWithNoTrivia o b t) (λ after. IsAfter t after)
+    first-is t {r = None} e = none_first t e
+    first-is [] {r = Some after} e = let z : None ≡ Some after = e in cc
+    first-is (c ∷ cs) {r = Some after} e = found_after cs e
 
 module _ {o : ParseOption} where
   -- one more of them
@@ -161,28 +254,27 @@ module _ {o : ParseOption} where
   AreTrivia-then (AreTrivia.more first row) t = AreTrivia.more first (AreTrivia-then row t)
 
 -- a parser that skips one more of them, and where there are no more
-pub record SkipsOne (T b rest after : List ℕ) : Type 0 where
+pub record SkipsOne (o : ParseOption) (T b rest after : List ℕ) : Type 0 where
   pub within : IsRest T after
-  pub skipped : (o : ParseOption) → AreTrivia o b (front_of T after)
+  pub skipped : AreTrivia o b (front_of T after)
   pub shorter : length after < length rest
 
-module _ {T b front : List ℕ} (rest : List ℕ) (within : IsRest T rest)
-    (skipped : (o : ParseOption) → AreTrivia o b (front_of T rest))
-    (at : front ≡ front_of T rest) where
-  pub skips_one : {after : List ℕ} → past_first front rest ≡ Some after → SkipsOne T b rest after
+module _ (o : ParseOption) {T b front : List ℕ} (rest : List ℕ) (within : IsRest T rest)
+    (skipped : AreTrivia o b (front_of T rest)) (at : front ≡ front_of T rest) where
+  pub skips_one : {after : List ℕ} → past_first o front rest ≡ Some after → SkipsOne o T b rest after
   skips_one {after} e =
-      let x = subst (λ f. IsAfter f rest after) at (first-is front rest e) in
+      let x = subst (λ f. IsAfter o f rest after) at (first-is o front rest e) in
       let grown = front_grows T rest x.source after within x.whole in
       record {
         within = grown.1;
-        skipped = λ o. rw grown.0 (AreTrivia-then (skipped o) (x.trivia o));
+        skipped = rw grown.0 (AreTrivia-then skipped x.trivia);
         shorter = omega (arith, x.some, ap length x.whole, length-append x.source after);
       }
 
-  pub skips_all : past_first front rest ≡ None → (o : ParseOption) → SkipsTrivia o T b (front_of T rest)
-  skips_all e o = record {
+  pub skips_all : past_first o front rest ≡ None → SkipsTrivia o T b (front_of T rest)
+  skips_all e = record {
     rest = rest;
     whole = sym within;
-    skipped = skipped o;
-    no_more = subst (λ f. BeginsNone f rest) at (first-is front rest e) o;
+    skipped = skipped;
+    no_more = subst (λ f. BeginsWithNoTrivia o f rest) at (first-is o front rest e);
   }

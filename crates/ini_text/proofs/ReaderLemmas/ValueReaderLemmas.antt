@@ -2,7 +2,8 @@
 -- says, and the code gives it.
 use Rattle.std.proofs.Common.{◌≡◌, ◌≢◌, ◌≤◌, ℕ, ◌<◌, Bool, true, false, ◌==◌, List, [], ◌∷◌, ◌++◌, length, Option, Some, None, inl, inr, refl, sym, ap, ◌∙◌, subst, append_assoc, append-nil, length-append, arith, ne_eqb, eqb-true}
 use Rattle.std.proofs.Math.Bool.{or-false}
-use Rattle.std.proofs.lemmas.Bool.{cases_Bool, cond-true, cond_both, and_parts, or_parts}
+use Rattle.std.proofs.lemmas.Bool.{cases_Bool, cond_both, and_parts, or_parts}
+use Rattle.std.proofs.lemmas.List.{append_cancel_left}
 use Rattle.std.specs.List.{list_all}
 use Rattle.ini_text.specs.Options.Backslashes.{Backslash}
 use Rattle.ini_text.specs.declared.option.ParseOption.{ParseOption}
@@ -10,16 +11,19 @@ use Rattle.ini_text.specs.declared.error.ParseKind.{ParseKind}
 use Rattle.ini_text.specs.Grammar.CharacterKinds.{line_feed, carriage_return, is_blank, is_line_end, is_inline_white, BeginsWith, BeginsWithNo}
 use Rattle.ini_text.specs.Grammar.WhiteSpace.{Lead, without_outer_line_feeds}
 use Rattle.ini_text.specs.Grammar.Strings.{plain_ends, Closes, Str}
-use Rattle.ini_text.specs.Grammar.Lines.{Line}
-use Rattle.ini_text.specs.Grammar.Values.{LineEnd, MoreLines, Value, MoreLinesStop, ValueStops}
+use Rattle.ini_text.specs.Grammar.Keys.{begins_note}
+use Rattle.ini_text.specs.Grammar.Lines.{Line, Note}
+use Rattle.ini_text.specs.Grammar.Values.{CommentLine, GoesOn, LineEnd, MoreLines, Value, MoreLinesStop, ValueStops}
 use Rattle.ini_text.specs.Inside.LineReader.{line}
 use Rattle.ini_text.specs.Inside.Reading.{Answer, found, stopped, prepend, altered_answer, Step, more, ends, go_on}
 use Rattle.ini_text.specs.Inside.Scans.{run_of, skipped}
 use Rattle.ini_text.specs.Inside.StringReader.{as_step}
-use Rattle.ini_text.specs.Inside.ValueReader.{past_cr, after_end, empty_cr, before_end, after_line, row, more_lines, multiline_value, value}
+use Rattle.ini_text.specs.Inside.PlainTests.{begins}
+use Rattle.ini_text.specs.Inside.ValueReader.{past_cr, after_end, after_note, empty_cr, after_line, indented_line, is_line_part, row, more_lines, multiline_value, value}
 use Rattle.ini_text.proofs.GrammarLemmas.KindLemmas.{blank_inline}
-use Rattle.ini_text.proofs.ReaderLemmas.ReaderLemmas.{and_more, and_found, read_after, stopped_after, Says, IsReader, StepSays, prefixed, turn, shortens, reads}
+use Rattle.ini_text.proofs.ReaderLemmas.ReaderLemmas.{Says, IsReader, StepSays, prefixed, turn, reads}
 use Rattle.ini_text.proofs.ReaderLemmas.LineReaderLemmas.{LineSays, line-reads}
+use Rattle.ini_text.proofs.ReaderLemmas.NoteLemmas.{no_note, note_read, other_text, past_mark, some_note}
 use Rattle.ini_text.proofs.ReaderLemmas.RunReaderLemmas.{BeginsWith-some, run-finds, run-sound}
 
 -- a line end, and what follows it
@@ -48,6 +52,13 @@ after_end-sound (c ∷ cs) = elim (cases_Bool (c == line_feed)) [
       | inl q ↦ rw (eqb-true d 10 q) (carriage_return ∷ line_feed ∷ [], LineEnd.cr_lf, refl)
       | inr n ↦ rw n (carriage_return ∷ [], LineEnd.cr n, refl)
     ]
+
+-- a line that no line end follows ends the text
+pub no_end : (t : List ℕ) → Closes plain_ends t → after_end t ≡ None → t ≡ []
+no_end [] h n = refl
+no_end (c ∷ cs) h n =
+    let none : BeginsWithNo is_line_end (c ∷ cs) = subst (EndSays (c ∷ cs)) n (after_end-sound (c ∷ cs)) in
+    let z : true ≡ false = sym (rw or-false at h) ∙ none in cc
 
 pub line_end-some : {e r : List ℕ} → LineEnd e r → 1 ≤ length e
 line_end-some LineEnd.lf = omega arith
@@ -90,7 +101,7 @@ ended {o} {first} {w} {x} {u} c r lead (l, ln, h) = by (after_end (c ∷ r)) ref
     )
 
 -- a blank is inline white and ends no line
-blank-apart : (c x : ℕ) → is_blank x ≡ false → is_blank c ≡ true → c ≢ x
+pub blank-apart : (c x : ℕ) → is_blank x ≡ false → is_blank c ≡ true → c ≢ x
 blank-apart c x n h q = let z = subst (λ y. is_blank y ≡ true) q h in cc
 
 after_lead : {w x : List ℕ} → Lead w x → skipped is_inline_white (w ++ x) ≡ x
@@ -103,45 +114,96 @@ module _ (o : ParseOption) where
   abbrev RowSays : List ℕ → Step ℕ → Type 0
   RowSays t x = StepSays (MoreLines o) (MoreLinesStop o) t x
 
-  continued : {w l e n u : List ℕ} → BeginsWith is_blank w → EndedLine o false w l e n u → (a : Answer ℕ)
-      → LinesSay n a
+  continued : {w l e n u : List ℕ} → GoesOn o w (l ++ (e ++ n)) → EndedLine o false w l e n u
+      → (a : Answer ℕ) → LinesSay n a
       → LinesSay (w ++ (l ++ (e ++ n))) (prepend (line_feed ∷ u) a)
-  continued {w} {l} {e} {u = u} b ln (found v r) (s, m, h) =
+  continued {w} {l} {e} {u = u} goes ln (found v r) (s, m, h) =
       let x = subst (λ y. EndedLine o false w l e y u) (sym h) ln in
-      (w ++ (l ++ (e ++ s)), MoreLines.continued b x.lead x.line x.end m, simp (append_assoc, h))
-  continued {w} {l} {e} {u = u} b ln (stopped r k) (s, m, h) =
+      let g = subst (λ y. GoesOn o w (l ++ (e ++ y))) (sym h) goes in
+      (w ++ (l ++ (e ++ s)), MoreLines.continued g x.line x.end m, simp (append_assoc, h))
+  continued {w} {l} {e} {u = u} goes ln (stopped r k) (s, m, h) =
       let x = subst (λ y. EndedLine o false w l e y u) (sym h) ln in
-      (w ++ (l ++ (e ++ s)), MoreLinesStop.continued b x.lead x.line x.end m, simp (append_assoc, h))
+      let g = subst (λ y. GoesOn o w (l ++ (e ++ y))) (sym h) goes in
+      (w ++ (l ++ (e ++ s)), MoreLinesStop.continued g x.line x.end m, simp (append_assoc, h))
 
-  abbrev goes_on : Answer ℕ → Step ℕ
+  commented : {s e n : List ℕ} → CommentLine o s (e ++ n) → LineEnd e n → (a : Answer ℕ) → LinesSay n a
+      → LinesSay (s ++ (e ++ n)) (prepend [] a)
+  commented {s} {e} line end (found v r) (t, m, h) = (
+    s ++ (e ++ t),
+    MoreLines.comment (subst (λ y. CommentLine o s (e ++ y)) (sym h) line) (subst (LineEnd e) (sym h) end) m,
+    simp (append_assoc, h),
+  )
+  commented {s} {e} line end (stopped r k) (t, m, h) = (
+    s ++ (e ++ t),
+    MoreLinesStop.comment (subst (λ y. CommentLine o s (e ++ y)) (sym h) line)
+        (subst (LineEnd e) (sym h) end) m,
+    simp (append_assoc, h),
+  )
+
+  abbrev pub goes_on : Answer ℕ → Step ℕ
   goes_on a = after_line (prepend (line_feed ∷ []) a)
 
-  goes_on-sound : (w x : List ℕ) → BeginsWith is_blank w → Lead w x → (a : Answer ℕ) → LineSays o false x a
+  goes_on-sound : (w x : List ℕ) → GoesOn o w x → (a : Answer ℕ) → LineSays o false x a
       → RowSays (w ++ x) (goes_on a)
-  goes_on-sound w x b lead (found u []) (l, ln, h) = (
+  goes_on-sound w x goes (found u []) (l, ln, h) = (
     w ++ l,
-    MoreLines.last b (subst (Lead w) (sym h ∙ append-nil l) lead) ln,
+    MoreLines.last (subst (GoesOn o w) (sym h ∙ append-nil l) goes) ln,
     append_assoc w l [] ∙ ap (λ y. w ++ y) h,
   )
-  goes_on-sound w x b lead (found u (c ∷ r)) said =
-      let (n, is, l, e, ln, whole) = ended c r lead said in
+  goes_on-sound w x goes (found u (c ∷ r)) said =
+      let (n, is, l, e, ln, whole) = ended c r goes.lead said in
       rw (is, ← whole) (
         omega (
           arith,
-          BeginsWith-some is_blank w b,
+          BeginsWith-some is_blank w goes.begins,
           length-append w (l ++ (e ++ n)),
           length-append l (e ++ n),
           length-append e n,
         ),
-        continued b ln,
+        continued (subst (GoesOn o w) (append_cancel_left w x (l ++ (e ++ n)) (sym whole)) goes) ln,
       )
-  goes_on-sound w x b lead (stopped r k) (l, stops, h) = (
+  goes_on-sound w x goes (stopped r k) (l, stops, h) = (
     w ++ l,
-    MoreLinesStop.in_line b (subst (Lead w) (sym h) lead) stops,
+    MoreLinesStop.in_line (subst (GoesOn o w) (sym h) goes) stops,
     append_assoc w l r ∙ ap (λ y. w ++ y) h,
   )
 
-  row-sound : (t : List ℕ) → RowSays t (row o t)
+  -- an indented comment
+  pub comment_line : (w t : List ℕ) → BeginsWith is_blank w → Lead w t → begins (begins_note o) t ≡ true
+      → (s : List ℕ) × CommentLine o s (skipped is_line_part t) × (s ++ skipped is_line_part t ≡ w ++ t)
+  comment_line w t b lead h =
+      let (on, n, noted, whole) = some_note o t h in (
+        w ++ n,
+        CommentLine.comment on b (subst (Lead w) (sym whole) lead) noted,
+        append_assoc w n (skipped is_line_part t) ∙ ap (λ y. w ++ y) whole,
+      )
+
+  pub CommentLine-closes : {s r : List ℕ} → CommentLine o s r → Closes plain_ends r
+  CommentLine-closes (CommentLine.comment on b lead (Note.note mark all closes)) = closes
+
+  CommentLine-some : {s r : List ℕ} → CommentLine o s r → 1 ≤ length s
+  CommentLine-some (CommentLine.comment {w} {n} on b lead noted) =
+      omega (arith, BeginsWith-some is_blank w b, length-append w n)
+
+  comment-sound : {t : List ℕ} (s r : List ℕ) → CommentLine o s r → s ++ r ≡ t
+      → RowSays t (after_line (found [] r))
+  comment-sound {t} s r line whole = by (after_end r) refl (after_end-sound r)
+    where
+      by : (n : Option (List ℕ)) → after_end r ≡ n → EndSays r n → RowSays t (after_line (found [] r))
+      by None is none =
+          let empty : r ≡ [] = no_end r (CommentLine-closes line) is in
+          rw empty (
+            s,
+            MoreLines.last_comment (subst (CommentLine o s) empty line),
+            ap (λ y. s ++ y) (sym empty) ∙ whole,
+          )
+      by (Some n) is (e, end, q) =
+          rw is (subst (λ t. RowSays t (more [] n)) (ap (λ y. s ++ y) q ∙ whole) (
+            omega (arith, CommentLine-some line, length-append s (e ++ n), length-append e n),
+            commented (subst (CommentLine o s) (sym q) line) end,
+          ))
+
+  pub row-sound : (t : List ℕ) → RowSays t (row o t)
   row-sound [] = ([], MoreLines.done tt tt, refl)
   row-sound (c ∷ cs) = elim (cases_Bool (c == line_feed)) [
     | inl q ↦
@@ -174,17 +236,25 @@ module _ (o : ParseOption) where
         | inr n ↦ rw n (carriage_return ∷ d ∷ [], MoreLinesStop.cr_alone n, refl)
       ]
 
-      at_blank : is_blank c ≡ true → RowSays (c ∷ cs) (goes_on (line o false (skipped is_inline_white cs)))
+      at_blank : is_blank c ≡ true → RowSays (c ∷ cs) (indented_line o (skipped is_inline_white cs)
+          (after_note o (skipped is_inline_white cs)))
       at_blank b =
           let split = run-sound is_inline_white cs in
           let rest = skipped is_inline_white cs in
-          let lead : Lead (c ∷ run_of is_inline_white cs) rest =
-          record { white = rw (blank_inline c b, split.all) refl; ends = split.ends } in
-          subst (λ y. RowSays (c ∷ y) (goes_on (line o false rest))) split.whole
-          (goes_on-sound (c ∷ run_of is_inline_white cs) rest b lead (line o false rest)
-          ((line-reads o false).sound rest))
+          let w = c ∷ run_of is_inline_white cs in
+          let lead : Lead w rest = record { white = rw (blank_inline c b, split.all) refl; ends = split.ends } in
+          subst (λ y. RowSays (c ∷ y) (indented_line o rest (after_note o rest))) split.whole
+          (elim (cases_Bool (begins (begins_note o) rest)) [
+            | inl h ↦
+                let (s, line, whole) = comment_line w rest b lead h in
+                rw h (comment-sound s (skipped is_line_part rest) line whole)
+            | inr n ↦
+                let goes : GoesOn o w rest =
+                record { begins = b; lead = lead; text = other_text o rest n } in
+                rw n (goes_on-sound w rest goes (line o false rest) ((line-reads o false).sound rest))
+          ])
 
-  lines-turn : (t : List ℕ) → more_lines o t ≡ go_on (more_lines o) (row o t)
+  pub lines-turn : (t : List ℕ) → more_lines o t ≡ go_on (more_lines o) (row o t)
   unfolding more_lines
   lines-turn t = turn (MoreLines o) (MoreLinesStop o) (row o) row-sound t
 
@@ -195,9 +265,10 @@ module _ (o : ParseOption) where
       → more_lines o t ≡ prepend w a
   then {w = w} t e rest = lines-turn t ∙ ap (go_on (more_lines o)) e ∙ ap (prepend w) rest
 
-  row-blank : {w x : List ℕ} → BeginsWith is_blank w → Lead w x → row o (w ++ x) ≡ goes_on (line o false x)
-  row-blank {w = []} b lead = cc
-  row-blank {w = c ∷ w} {x} b lead =
+  row-indented : {w x : List ℕ} → BeginsWith is_blank w → Lead w x
+      → row o (w ++ x) ≡ indented_line o x (after_note o x)
+  row-indented {w = []} b lead = cc
+  row-indented {w = c ∷ w} {x} b lead =
       let white : list_all is_inline_white w ≡ true = (and_parts (is_inline_white c) _ lead.white).1 in
       rw (
         ne_eqb c 10 (blank-apart c 10 refl b),
@@ -207,9 +278,21 @@ module _ (o : ParseOption) where
             {w = w} (record { white = white; ends = lead.ends }),
       )
 
-  row-continued : {w l e n u : List ℕ} → BeginsWith is_blank w → EndedLine o false w l e n u
+  row-blank : {w x : List ℕ} → GoesOn o w x → row o (w ++ x) ≡ goes_on (line o false x)
+  row-blank {x = x} goes = row-indented goes.begins goes.lead ∙ rw (no_note o x goes.text) refl
+
+  row-continued : {w l e n u : List ℕ} → GoesOn o w (l ++ (e ++ n)) → EndedLine o false w l e n u
       → row o (w ++ (l ++ (e ++ n))) ≡ more (line_feed ∷ u) n
-  row-continued b ln = rw (row-blank b ln.lead, (line-reads o false).finds ln.line, after_end-finds ln.end)
+  row-continued goes ln = rw (row-blank goes, (line-reads o false).finds ln.line, after_end-finds ln.end)
+
+  pub row-comment : {s r : List ℕ} → CommentLine o s r → row o (s ++ r) ≡ after_line (found [] r)
+  row-comment {r = r} (CommentLine.comment {w} on b lead (Note.note {m} {s = k} mark all closes)) =
+      ap (row o) (append_assoc w (m ∷ k) r) ∙ row-indented b lead
+      ∙ rw (on, mark, past_mark m (k ++ r) mark, note_read {m = m} (Note.note mark all closes)) refl
+
+  row-commented : {s e n : List ℕ} → CommentLine o s (e ++ n) → LineEnd e n
+      → row o (s ++ (e ++ n)) ≡ more [] n
+  row-commented line end = row-comment line ∙ rw (after_end-finds end) refl
 
   row-done : (r : List ℕ) → BeginsWithNo is_blank r → BeginsWithNo is_line_end r
       → row o r ≡ ends (found [] r)
@@ -221,12 +304,15 @@ module _ (o : ParseOption) where
   MoreLines-finds _ r _ (MoreLines.done n m) = last _ (row-done r n m)
   MoreLines-finds _ r _ (MoreLines.empty_lf {t} {v = v} m) = then _ refl (MoreLines-finds t r v m)
   MoreLines-finds _ r _ (MoreLines.empty_cr_lf {t} {v = v} m) = then _ refl (MoreLines-finds t r v m)
-  MoreLines-finds _ r _ (MoreLines.continued {t = t} {v = v} b lead ln end m) =
-      simp append_assoc
-      (then _ (row-continued b (record { lead = lead; line = ln; end = end })) (MoreLines-finds t r v m))
-  MoreLines-finds _ _ _ (MoreLines.last {w} {l} {u} b lead ln) =
+  MoreLines-finds _ r _ (MoreLines.continued {t = t} {v = v} goes ln end m) =
+      simp append_assoc (then _ (row-continued goes (record { lead = goes.lead; line = ln; end = end }))
+      (MoreLines-finds t r v m))
+  MoreLines-finds _ r _ (MoreLines.comment {t = t} {v = v} line end m) =
+      simp append_assoc (then _ (row-commented line end) (MoreLines-finds t r v m))
+  MoreLines-finds _ _ _ (MoreLines.last_comment line) = last _ (row-comment line)
+  MoreLines-finds _ _ _ (MoreLines.last {w} {l} {u} goes ln) =
       let reads : line o false l ≡ found u [] = rw (append-nil l) at ((line-reads o false).finds ln) in
-      let step : row o (w ++ l) ≡ ends (found (line_feed ∷ u) []) = rw (row-blank b lead, reads) in
+      let step : row o (w ++ l) ≡ ends (found (line_feed ∷ u) []) = rw (row-blank goes, reads) in
       rw (append-nil (w ++ l)) (last _ step)
 
   MoreLinesStop-finds : (s r : List ℕ) (k : ParseKind) → MoreLinesStop o s r k
@@ -235,12 +321,14 @@ module _ (o : ParseOption) where
       then {w = line_feed ∷ []} _ refl (MoreLinesStop-finds t r k m)
   MoreLinesStop-finds _ r k (MoreLinesStop.empty_cr_lf {t} m) =
       then {w = line_feed ∷ []} _ refl (MoreLinesStop-finds t r k m)
-  MoreLinesStop-finds _ r k (MoreLinesStop.continued {t = t} b lead ln end m) =
-      simp append_assoc (then _ (row-continued b (record { lead = lead; line = ln; end = end }))
+  MoreLinesStop-finds _ r k (MoreLinesStop.continued {t = t} goes ln end m) =
+      simp append_assoc (then _ (row-continued goes (record { lead = goes.lead; line = ln; end = end }))
       (MoreLinesStop-finds t r k m))
-  MoreLinesStop-finds _ r k (MoreLinesStop.in_line {w} {s} b lead stops) =
+  MoreLinesStop-finds _ r k (MoreLinesStop.comment {t = t} line end m) =
+      simp append_assoc (then {w = []} _ (row-commented line end) (MoreLinesStop-finds t r k m))
+  MoreLinesStop-finds _ r k (MoreLinesStop.in_line {w} {s} goes stops) =
       let step : row o (w ++ (s ++ r)) ≡ ends (stopped r k) =
-      rw (row-blank b lead, (line-reads o false).stops stops) in rw (append_assoc w s r) (last _ step)
+      rw (row-blank goes, (line-reads o false).stops stops) in rw (append_assoc w s r) (last _ step)
   MoreLinesStop-finds _ r _ (MoreLinesStop.cr_alone {c} n) = last _ (rw n)
   MoreLinesStop-finds _ _ _ MoreLinesStop.cr_at_end = last _ refl
 
@@ -339,95 +427,3 @@ module _ (o : ParseOption) where
       stops (ValueStops.later_line {u = u} on lead ln end m) =
           simp append_assoc (value-lines on (record { lead = lead; line = ln; end = end })
           ∙ ap (joined u) (more_lines-reads.stops m))
-
-  -- the lines that go on, line by line
-  pub no_lines : {t : List ℕ} → t ≡ [] → more_lines o t ≡ found [] t
-  no_lines none = rw none (lines-turn [])
-
-  pub no_more_lines : {t cs : List ℕ} {c : ℕ} → t ≡ c ∷ cs → c ≢ line_feed → c ≢ carriage_return
-      → is_blank c ≡ false → more_lines o t ≡ found [] t
-  no_more_lines {cs = cs} {c} is n m b = rw is (lines-turn (c ∷ cs) ∙ rw (ne_eqb c 10 n, ne_eqb c 13 m, b))
-
-  pub empty_line : {t cs : List ℕ} {c : ℕ} → t ≡ c ∷ cs → c ≡ line_feed
-      → more_lines o t ≡ prepend (line_feed ∷ []) (more_lines o cs)
-  empty_line {cs = cs} is q = rw (is, q) (lines-turn (line_feed ∷ cs))
-
-  pub empty_cr_line : {t cs r : List ℕ} {c : ℕ} → t ≡ c ∷ cs → c ≡ carriage_return
-      → empty_cr cs ≡ found [] r → more_lines o t ≡ prepend (line_feed ∷ []) (more_lines o r)
-  empty_cr_line {cs = cs} is q h = rw (is, q) (lines-turn (carriage_return ∷ cs) ∙ rw h)
-
-  pub empty_cr_stops : {t cs r : List ℕ} {k : ParseKind} {c : ℕ} → t ≡ c ∷ cs → c ≡ carriage_return
-      → empty_cr cs ≡ stopped r k → more_lines o t ≡ stopped r k
-  empty_cr_stops {cs = cs} is q h = rw (is, q) (lines-turn (carriage_return ∷ cs) ∙ rw h)
-
-  -- a line that begins with a blank, after what was read, `old`, and a line feed
-  module _ {t cs start : List ℕ} {c : ℕ} (old pushed : List ℕ) (is : t ≡ c ∷ cs) (b : is_blank c ≡ true)
-      (skips : start ≡ skipped is_inline_white t) (feed : pushed ≡ old ++ line_feed ∷ []) where
-    row-at : row o t ≡ goes_on (line o false start)
-    row-at =
-        let following : start ≡ skipped is_inline_white cs = skips ∙ ap (skipped is_inline_white) is
-        ∙ cond-true (is_inline_white c) _ _ (blank_inline c b) in
-        rw (following, is)
-        (rw (ne_eqb c 10 (blank-apart c 10 refl b), ne_eqb c 13 (blank-apart c 13 refl b), b))
-
-    line-turn : more_lines o t ≡ go_on (more_lines o) (goes_on (line o false start))
-    line-turn = lines-turn t ∙ ap (go_on (more_lines o)) row-at
-
-    grown-by : {new : List ℕ} (u : List ℕ) → new ≡ pushed ++ u → new ≡ old ++ (line_feed ∷ u)
-    grown-by u grown = grown ∙ ap (λ x. x ++ u) feed ∙ append_assoc old (line_feed ∷ []) u
-
-    pub line_goes_on : {new end next : List ℕ} → prepend pushed (line o false start) ≡ found new end
-        → after_end end ≡ Some next
-        → (prepend old (more_lines o t) ≡ prepend new (more_lines o next)) × (length next < length t)
-    line_goes_on {end = end} {next} h e =
-        let (u, read, grown) = read_after pushed (line o false start) h in
-        let step : row o t ≡ more (line_feed ∷ u) next =
-        row-at ∙ ap goes_on read ∙ ap (before_end (line_feed ∷ u) end) e in (
-          and_more old (line_feed ∷ u) (more_lines o next) refl
-              (lines-turn t ∙ ap (go_on (more_lines o)) step) (grown-by u grown),
-          shortens (MoreLines o) (MoreLinesStop o) (row o) row-sound step,
-        )
-
-    pub line_ends : {new end : List ℕ} → prepend pushed (line o false start) ≡ found new end
-        → after_end end ≡ None → prepend old (more_lines o t) ≡ found new end
-    line_ends {end = end} h e =
-        let (u, read, grown) = read_after pushed (line o false start) h in
-        let step : row o t ≡ ends (found (line_feed ∷ u) end) =
-        row-at ∙ ap goes_on read ∙ ap (before_end (line_feed ∷ u) end) e in
-        and_found old refl (lines-turn t ∙ ap (go_on (more_lines o)) step) (grown-by u grown)
-
-    pub line_stops : {r : List ℕ} {k : ParseKind} → prepend pushed (line o false start) ≡ stopped r k
-        → prepend old (more_lines o t) ≡ stopped r k
-    line_stops h =
-        ap (prepend old) (line-turn
-        ∙ ap (λ a. go_on (more_lines o) (goes_on a)) (stopped_after pushed (line o false start) h))
-
-  -- a value, after its lead
-  module _ {start : List ℕ} (t : List ℕ) (skips : start ≡ skipped is_inline_white t) where
-    pub value_line : o.enabled_indented_mutiline_value ≡ false → value o t ≡ line o true start
-    unfolding value
-    value_line off = rw (skips, off)
-
-    value_multiline : o.enabled_indented_mutiline_value ≡ true
-        → value o t ≡ multiline_value o (line o true start)
-    unfolding value
-    value_multiline on = rw (skips, on)
-
-    pub value_stops : {r : List ℕ} {k : ParseKind} → line o true start ≡ stopped r k
-        → value o t ≡ stopped r k
-    value_stops h = elim (cases_Bool o.enabled_indented_mutiline_value)
-        [ inl on ↦ value_multiline on ∙ ap (multiline_value o) h | inr off ↦ value_line off ∙ h ]
-
-    pub value_ends : {u v end : List ℕ} → o.enabled_indented_mutiline_value ≡ true
-        → line o true start ≡ found u end → after_end end ≡ None → v ≡ without_outer_line_feeds u
-        → value o t ≡ found v end
-    value_ends {u} {end = end} on h e is =
-        value_multiline on ∙ ap (multiline_value o) h
-        ∙ ap (λ n. altered_answer without_outer_line_feeds (go_on (more_lines o) (before_end u end n))) e
-        ∙ ap (λ x. found x end) (sym is)
-
-    pub value_goes_on : {u end next : List ℕ} → o.enabled_indented_mutiline_value ≡ true
-        → line o true start ≡ found u end → after_end end ≡ Some next
-        → value o t ≡ joined u (more_lines o next)
-    value_goes_on {u} {end} on h e = value_multiline on ∙ ap (multiline_value o) h
-        ∙ ap (λ n. altered_answer without_outer_line_feeds (go_on (more_lines o) (before_end u end n))) e

@@ -12,8 +12,8 @@ use Rattle.ini_text.specs.Grammar.WhiteSpace.{Lead, trimmed, end_trimmed}
 use Rattle.ini_text.specs.Grammar.EscapeSequences.{Units}
 use Rattle.ini_text.specs.Grammar.Strings.{Ends, is_endpoint, Row, Str, Closes, name_ends, bracketed_name_ends, key_ends, quote_ends, plain_ends}
 use Rattle.ini_text.specs.Grammar.Lines.{Quoted, Line, BeginsPlain, plain_value}
-use Rattle.ini_text.specs.Grammar.Values.{Value, ValueStops}
-use Rattle.ini_text.specs.Grammar.Keys.{Indentation, begins_key, begins_indented_key, KeyFront}
+use Rattle.ini_text.specs.Grammar.Values.{GoesOn, Value, ValueStops}
+use Rattle.ini_text.specs.Grammar.Keys.{Indentation, begins_key, begins_indented_key, begins_note, KeyFront}
 use Rattle.ini_text.specs.Options.Backslashes.{Backslash, Raw, is_special}
 use Rattle.ini_text.specs.Options.ReadOptions.{backslash_of}
 use Rattle.ini_text.specs.Grammar.Elements.{Given, Element, ElementStops, Gap}
@@ -23,6 +23,7 @@ use Rattle.ini_text.specs.Inside.Scans.{is_raw}
 use Rattle.ini_text.specs.declared.option.ParseOption.{ParseOption}
 use Rattle.ini_text.specs.declared.error.ParseKind.{ParseKind}
 use Rattle.ini_text.proofs.GrammarLemmas.ItemLemmas.{reads-append}
+use Rattle.ini_text.proofs.ReaderLemmas.NoteLemmas.{other_text}
 
 -- after the front b, the rest t of a text gives the items
 pub data RestGives (o : ParseOption) : List ℕ → List ℕ → List Given → Type 0 where
@@ -139,6 +140,11 @@ lead w r h =
     let parts = and_parts (list_all is_inline_white w) (begins_no is_inline_white r) h in
     record { white = parts.0; ends = begins_with_no is_inline_white r parts.1 }
 
+-- the white space before a line with which a value goes on
+pub goes_on : {o : ParseOption} {w r : List ℕ} → BeginsWith is_blank w → Lead w r
+    → begins (begins_note o) r ≡ false → GoesOn o w r
+goes_on {o} {r = r} blank lead none = record { begins = blank; lead = lead; text = other_text o r none }
+
 -- the blanks before a key, a header or a line end
 abbrev pub is_indentation : List ℕ → List ℕ → Bool
 is_indentation b w = starts_line b && (begins is_blank w && list_all is_blank w)
@@ -206,15 +212,15 @@ plain_key {o} {r = r} k h =
 -- a key before r after the blanks w
 abbrev pub is_indented_key : ParseOption → List ℕ → List ℕ → List ℕ → List ℕ → Bool
 is_indented_key o b w k r = is_indentation b w
-    && (begins begins_indented_key (k ++ r) && is_raw_string (key_ends o.line_without_separator) k r)
+    && (begins (begins_indented_key o) (k ++ r) && is_raw_string (key_ends o.line_without_separator) k r)
 
 pub key_after_blanks : {o : ParseOption} {b r : List ℕ} (w k : List ℕ) → is_indented_key o b w k r ≡ true
     → KeyFront o b (w ++ k) r (key_of o w k)
 key_after_blanks {o} {b} {r} w k h =
     let raw = is_raw_string (key_ends o.line_without_separator) k r in
-    let blanks = and_parts (is_indentation b w) (begins begins_indented_key (k ++ r) && raw) h in
-    let parts = and_parts (begins begins_indented_key (k ++ r)) raw blanks.1 in
-    KeyFront.indented (indentation b w blanks.0) (begins_with begins_indented_key (k ++ r) parts.0)
+    let blanks = and_parts (is_indentation b w) (begins (begins_indented_key o) (k ++ r) && raw) h in
+    let parts = and_parts (begins (begins_indented_key o) (k ++ r)) raw blanks.1 in
+    KeyFront.indented (indentation b w blanks.0) (begins_with (begins_indented_key o) (k ++ r) parts.0)
     (raw_string k parts.1)
 
 -- a pair whose key has no backslashes, not indented and indented

@@ -15,7 +15,7 @@ use Rattle.ini_text.specs.Grammar.Elements.{Element}
 use Rattle.ini_text.specs.Grammar.Elements.Given.{Header, Pair}
 use Rattle.ini_text.specs.Grammar.Texts.{Derives}
 use Rattle.ini_text.specs.declared.option.ParseOption.{ParseOption}
-use Rattle.ini_text.proofs.Worked.DerivationLemmas.{derives, differs, one_line, pair_of, plain_pair, plain_header, white, not_empty, raws, raws_before, plain_key, pair_after_blanks, plain_line, unquoted_line, raw_string, quoted, lead, indentation}
+use Rattle.ini_text.proofs.Worked.DerivationLemmas.{derives, differs, one_line, pair_of, plain_pair, plain_header, white, not_empty, raws, raws_before, plain_key, pair_after_blanks, plain_line, unquoted_line, raw_string, quoted, lead, indentation, goes_on}
 use Rattle.ini_text.proofs.Worked.DerivationLemmas.RestGives.{whole, skip, give}
 
 -- The options that differ from the default in one field; `without_escapes` is another.
@@ -115,7 +115,7 @@ pub cr_lf_in_a_value : Derives with_multiline_values (codes "k=v\r\n  w\r\n")
 cr_lf_in_a_value = derives
     (give (pair_of (codes "k") refl refl
     (Value.lines {w = []} refl (lead _ _ refl) (plain_line (codes "v") refl) LineEnd.cr_lf
-    (MoreLines.continued {w = codes "  "} refl (lead _ _ refl) (plain_line (codes "w") refl) LineEnd.cr_lf
+    (MoreLines.continued {w = codes "  "} (goes_on refl (lead _ _ refl) refl) (plain_line (codes "w") refl) LineEnd.cr_lf
     (MoreLines.done tt tt)))) whole)
 
 -- CR doesn't end a comment, and the text's end does.
@@ -139,16 +139,16 @@ multiline_values = derives (
     skip (white refl) (give (plain_header (codes "Foo") refl) (skip (white refl) (
     give (pair_of (codes "bar ") refl
     refl (Value.lines {w = []} refl (lead _ _ refl) (plain_line [] refl) LineEnd.lf
-    (MoreLines.continued {w = codes "    "} refl (lead _ _ refl) (plain_line (codes "u") refl) LineEnd.lf (
-    MoreLines.continued {w = codes "    "} refl (lead _ _ refl) (plain_line (codes "v") refl) LineEnd.lf (
+    (MoreLines.continued {w = codes "    "} (goes_on refl (lead _ _ refl) refl) (plain_line (codes "u") refl) LineEnd.lf (
+    MoreLines.continued {w = codes "    "} (goes_on refl (lead _ _ refl) refl) (plain_line (codes "v") refl) LineEnd.lf (
     MoreLines.empty_lf (MoreLines.done refl refl)))))) (
     give (pair_of (codes "baz ") refl
     refl (Value.lines {w = codes " "} refl (lead _ _ refl) (plain_line (codes "w") refl) LineEnd.lf
-    (MoreLines.continued {w = codes "  "} refl (lead _ _ refl)
+    (MoreLines.continued {w = codes "  "} (goes_on refl (lead _ _ refl) refl)
     (plain_line (codes "x # intentional trailing whitespace below") refl) LineEnd.lf (
-    MoreLines.continued {w = codes "   "} refl (lead _ _ refl) (plain_line (codes "y ") refl) LineEnd.lf (
+    MoreLines.continued {w = codes "   "} (goes_on refl (lead _ _ refl) refl) (plain_line (codes "y ") refl) LineEnd.lf (
     MoreLines.empty_lf (
-    MoreLines.continued {w = codes " "} refl (lead _ _ refl) (plain_line (codes "z #2") refl) LineEnd.lf
+    MoreLines.continued {w = codes " "} (goes_on refl (lead _ _ refl) refl) (plain_line (codes "z #2") refl) LineEnd.lf
     (MoreLines.done refl refl))))))) (
     give (pair_of (codes "bla ") refl refl
     (Value.lines {w = codes " "} refl (lead _ _ refl) (plain_line (codes "a") refl) LineEnd.lf

@@ -8,6 +8,7 @@ use Rattle.ini_text.specs.Grammar.CharacterKinds.{BeginsWith}
 use Rattle.ini_text.specs.Grammar.Positions.{starts_line, is_column_one}
 use Rattle.ini_text.specs.Grammar.WhiteSpace.{trimmed}
 use Rattle.ini_text.specs.Grammar.Strings.{Str, StrStops, name_ends, bracketed_name_ends, key_ends}
+use Rattle.ini_text.specs.Grammar.Lines.{Note}
 use Rattle.ini_text.specs.Grammar.Values.{Value, ValueStops}
 use Rattle.ini_text.specs.Grammar.Keys.{Indentation, begins_key, begins_indented_key, KeyFront}
 use Rattle.ini_text.specs.Options.ReadOptions.{backslash_of}
@@ -48,6 +49,11 @@ pub data Element (o : ParseOption) (b : List ℕ) : List ℕ → List ℕ → Li
   last_comment : {m : ℕ} {s : List ℕ} → is_column_one b ≡ true → is_comment_mark m ≡ true
       → list_all (λ c. not (is_line_feed c)) s ≡ true
       → Element o b (m ∷ s) [] []
+  -- with indented comments a note after the blanks that begin a line, or after a CR, up to its line's end
+  indented_comment : {w s r : List ℕ} → o.enabled_indented_comment ≡ true → Indentation b w → Note s r
+      → Element o b (w ++ s) r []
+  comment_after_cr : {s r : List ℕ} → o.enabled_indented_comment ≡ true → starts_line b ≡ true
+      → is_column_one b ≡ false → Note s r → Element o b s r []
   header : {s r v : List ℕ} → o.enabled_brackets_in_section_names ≡ false
       → Str (backslash_of o) name_ends s (close_bracket ∷ r) v
       → Element o b (open_bracket ∷ (s ++ close_bracket ∷ [])) r (Header (trimmed v) ∷ [])
@@ -61,7 +67,7 @@ pub data Element (o : ParseOption) (b : List ℕ) : List ℕ → List ℕ → Li
   -- blanks at the text's end, and, where keys run on, an indented one that the text's end cuts short
   dropped_blanks : {w : List ℕ} → Indentation b w → Element o b w [] []
   dropped_key : {w s : List ℕ} → o.line_without_separator ≡ RunsOn → Indentation b w
-      → BeginsWith begins_indented_key s → StrStops (backslash_of o) (key_ends RunsOn) s [] EndOfText
+      → BeginsWith (begins_indented_key o) s → StrStops (backslash_of o) (key_ends RunsOn) s [] EndOfText
       → Element o b (w ++ s) [] []
 
 -- an element's source at whose end reading stops, before r
@@ -79,7 +85,7 @@ pub data ElementStops (o : ParseOption) (b : List ℕ) : List ℕ → List ℕ �
       → StrStops (backslash_of o) (key_ends o.line_without_separator) s r kind → ElementStops o b s r kind
   -- where keys run on, the text's end is no fault in an indented one
   in_indented_key : {w s r : List ℕ} {kind : ParseKind} → Indentation b w
-      → BeginsWith begins_indented_key (s ++ r)
+      → BeginsWith (begins_indented_key o) (s ++ r)
       → StrStops (backslash_of o) (key_ends o.line_without_separator) s r kind
       → (o.line_without_separator ≡ RunsOn → kind ≢ EndOfText) → ElementStops o b (w ++ s) r kind
   no_key : {k r : List ℕ} {m : ℕ} → KeyFront o b k (m ∷ r) [] → is_separator m ≡ true
@@ -90,6 +96,7 @@ pub data ElementStops (o : ParseOption) (b : List ℕ) : List ℕ → List ℕ �
   in_value : {k s r key : List ℕ} {m : ℕ} {kind : ParseKind} → KeyFront o b k (m ∷ (s ++ r)) key → key ≢ []
       → is_separator m ≡ true → ValueStops o s r kind
       → ElementStops o b (k ++ m ∷ s) r kind
-  -- a comment's mark that isn't in column one
+  -- a comment's mark that isn't in column one, nor, with indented comments, at a line's start
   late_comment : {m : ℕ} {r : List ℕ} → is_comment_mark m ≡ true → is_column_one b ≡ false
+      → (o.enabled_indented_comment ≡ true → starts_line b ≡ false)
       → ElementStops o b (m ∷ []) r InlineComment

@@ -1,5 +1,5 @@
 -- Keys, indented and not.
-use Rattle.std.specs.Prelude.{◌≡◌, ℕ, Bool, true, not, ◌||◌, ◌==◌, if◌then◌else◌, List, ◌++◌}
+use Rattle.std.specs.Prelude.{◌≡◌, ℕ, Bool, true, not, ◌&&◌, ◌||◌, ◌==◌, if◌then◌else◌, List, ◌++◌}
 use Rattle.std.specs.Char.{is_whitespace}
 use Rattle.std.specs.List.{list_all}
 use Rattle.ini_text.specs.Grammar.CharacterKinds.{open_bracket, is_line_end, is_blank, is_comment_mark}
@@ -20,9 +20,13 @@ pub record Indentation (b blanks : List ℕ) : Type 0 where
 abbrev pub begins_key : ℕ → Bool
 begins_key c = not (is_whitespace c || is_comment_mark c || c == open_bracket)
 
+-- where indented comments are on, a character that begins one
+abbrev pub begins_note : ParseOption → ℕ → Bool
+begins_note o c = o.enabled_indented_comment && is_comment_mark c
+
 -- a character with which the string of an indented key begins
-abbrev pub begins_indented_key : ℕ → Bool
-begins_indented_key c = not (is_blank c || is_line_end c || c == open_bracket)
+abbrev pub begins_indented_key : ParseOption → ℕ → Bool
+begins_indented_key o c = not (is_blank c || is_line_end c || c == open_bracket || begins_note o c)
 
 -- The source of a key before r, which begins with a separator, or with a line end where a key ends there;
 -- and the key. With kept indentation white space goes at the end alone.
@@ -30,7 +34,7 @@ pub data KeyFront (o : ParseOption) (b : List ℕ) : List ℕ → List ℕ → L
   unindented : {s r v : List ℕ} → BeginsWith begins_key (s ++ r)
       → Str (backslash_of o) (key_ends o.line_without_separator) s r v
       → KeyFront o b s r (if o.enabled_preserve_key_leading_whitespace then end_trimmed v else trimmed v)
-  indented : {w s r v : List ℕ} → Indentation b w → BeginsWith begins_indented_key (s ++ r)
+  indented : {w s r v : List ℕ} → Indentation b w → BeginsWith (begins_indented_key o) (s ++ r)
       → Str (backslash_of o) (key_ends o.line_without_separator) s r v
       → KeyFront o b (w ++ s) r (if o.enabled_preserve_key_leading_whitespace then end_trimmed (w ++ v)
       else trimmed v)

@@ -1,8 +1,9 @@
--- Lines of a value: quoted parts, and then one plain part to the line's end.
+-- Lines of a value: quoted parts, and then one plain part to the line's end; and notes.
 use Rattle.std.specs.Prelude.{◌≡◌, ℕ, Bool, true, false, not, ◌&&◌, if◌then◌else◌, List, [], ◌∷◌, ◌++◌}
-use Rattle.ini_text.specs.Grammar.CharacterKinds.{is_quote_mark, BeginsWithNo}
+use Rattle.std.specs.List.{list_all}
+use Rattle.ini_text.specs.Grammar.CharacterKinds.{is_comment_mark, is_line_end, is_quote_mark, BeginsWithNo}
 use Rattle.ini_text.specs.Grammar.WhiteSpace.{trimmed, end_trimmed}
-use Rattle.ini_text.specs.Grammar.Strings.{Str, StrStops, quote_ends, plain_ends}
+use Rattle.ini_text.specs.Grammar.Strings.{Closes, Str, StrStops, quote_ends, plain_ends}
 use Rattle.ini_text.specs.Options.ReadOptions.{backslash_of}
 use Rattle.ini_text.specs.declared.option.ParseOption.{ParseOption}
 use Rattle.ini_text.specs.declared.error.ParseKind.{ParseKind}
@@ -36,3 +37,8 @@ pub data LineStops (o : ParseOption) : List ℕ → List ℕ → ParseKind → T
   in_plain : {q w s r : List ℕ} {quoted : Bool} {kind : ParseKind} → Quoted o q w quoted
       → BeginsPlain o (s ++ r)
       → StrStops (backslash_of o) plain_ends s r kind → LineStops o (q ++ s) r kind
+
+-- a note before r: a comment mark, and what follows it in its line
+pub data Note : List ℕ → List ℕ → Type 0 where
+  note : {m : ℕ} {s r : List ℕ} → is_comment_mark m ≡ true → list_all (λ c. not (is_line_end c)) s ≡ true
+      → Closes plain_ends r → Note (m ∷ s) r

@@ -8,7 +8,7 @@ use Rattle.ini_text.specs.Grammar.Positions.{last_or}
 use Rattle.ini_text.specs.Grammar.WhiteSpace.{Lead}
 use Rattle.ini_text.specs.Grammar.Strings.{Closes, plain_ends}
 use Rattle.ini_text.specs.Grammar.Lines.{Line}
-use Rattle.ini_text.specs.Grammar.Values.{LineEnd, MoreLines, Value}
+use Rattle.ini_text.specs.Grammar.Values.{CommentLine, GoesOn, LineEnd, MoreLines, Value}
 use Rattle.ini_text.specs.Grammar.Keys.{KeyFront}
 use Rattle.ini_text.specs.Options.Backslashes.{Backslash, is_special, begins_escape}
 use Rattle.ini_text.specs.Options.ReadOptions.{backslash_of}
@@ -33,13 +33,15 @@ pair_source p = p.key ++ p.separator ∷ value_source p
 
 -- lines with which a value goes on, before r, of which the last gives more than line feeds
 pub data LastLine (o : ParseOption) : List ℕ → List ℕ → Type 0 where
-  last : {w l r u : List ℕ} → BeginsWith is_blank w → Lead w (l ++ r) → Line o false l r u
+  last : {w l r u : List ℕ} → GoesOn o w (l ++ r) → Line o false l r u
       → list_all is_line_feed u ≡ false → LastLine o (w ++ l) r
   empty_lf : {t r : List ℕ} → LastLine o t r → LastLine o (line_feed ∷ t) r
   empty_cr_lf : {t r : List ℕ} → LastLine o t r → LastLine o (carriage_return ∷ line_feed ∷ t) r
-  continued : {w l e t r u : List ℕ} → BeginsWith is_blank w → Lead w (l ++ (e ++ (t ++ r)))
+  continued : {w l e t r u : List ℕ} → GoesOn o w (l ++ (e ++ (t ++ r)))
       → Line o false l (e ++ (t ++ r)) u → LineEnd e (t ++ r) → LastLine o t r
       → LastLine o (w ++ (l ++ (e ++ t))) r
+  comment : {s e t r : List ℕ} → CommentLine o s (e ++ (t ++ r)) → LineEnd e (t ++ r) → LastLine o t r
+      → LastLine o (s ++ (e ++ t)) r
 
 -- a value's lines before r: the first one, or as many as give more than line feeds
 pub data OwnLines (o : ParseOption) : List ℕ → List ℕ → Type 0 where

@@ -6,13 +6,14 @@ use Rattle.std.specs.List.{list_all}
 use Rattle.ini_text.specs.Grammar.CharacterKinds.{open_bracket, close_bracket, is_line_feed, is_line_end}
 use Rattle.ini_text.specs.Grammar.CharacterKinds.{is_blank, is_comment_mark}
 use Rattle.ini_text.specs.Grammar.Elements.{Given, Header, Pair}
+use Rattle.ini_text.specs.Grammar.Keys.{begins_note}
 use Rattle.ini_text.specs.Grammar.Positions.{starts_line, is_column_one}
 use Rattle.ini_text.specs.Grammar.Strings.{name_ends, bracketed_name_ends, key_ends}
 use Rattle.ini_text.specs.Grammar.WhiteSpace.{trimmed}
 use Rattle.ini_text.specs.Inside.Reading.{Answer, found, stopped, prepend, altered_answer}
 use Rattle.ini_text.specs.Inside.Scans.{run_of, skipped, trimmed_at}
 use Rattle.ini_text.specs.Inside.StringReader.{string}
-use Rattle.ini_text.specs.Inside.ValueReader.{value}
+use Rattle.ini_text.specs.Inside.ValueReader.{is_line_part, value}
 use Rattle.ini_text.specs.Parsing.Items.{borrowed_item_of}
 use Rattle.ini_text.specs.Options.ReadOptions.{backslash_of}
 use Rattle.ini_text.specs.declared.error.ParseKind.{ParseKind}
@@ -103,16 +104,24 @@ abbrev pub indented_pair : ParseOption → List ℕ → List ℕ → Answer Give
 indented_pair o w t =
     indented_pair_of_key o (trimmed_key o (prepend (kept_blanks o w) (key_string o t)))
 
+abbrev pub is_comment_part : ℕ → Bool
+is_comment_part c = not (is_line_feed c)
+
+-- after the mark of a comment, cs
+abbrev pub after_mark : ParseOption → List ℕ → List ℕ → Answer Given
+after_mark o b cs =
+    if is_column_one b then found [] (drop 1 (skipped is_comment_part cs))
+    else if o.enabled_indented_comment && starts_line b then found [] (skipped is_line_part cs)
+    else stopped cs InlineComment
+
 -- after the blanks w at a line's start
 abbrev pub after_blanks : ParseOption → List ℕ → List ℕ → Answer Given
 after_blanks o w [] = found [] []
 after_blanks o w (c ∷ cs) =
     if is_line_end c then found [] cs
     else if c == open_bracket then found [] (c ∷ cs)
+    else if begins_note o c then found [] (skipped is_line_part cs)
     else indented_pair o w (c ∷ cs)
-
-abbrev pub is_comment_part : ℕ → Bool
-is_comment_part c = not (is_line_feed c)
 
 unfoldable pub element : ParseOption → List ℕ → List ℕ → Answer Given
 element o b [] = found [] []
@@ -121,7 +130,6 @@ element o b (c ∷ cs) =
     then after_blanks o (run_of is_blank (c ∷ cs)) (skipped is_blank (c ∷ cs))
     else if is_whitespace c then found [] cs
     else if is_comment_mark c
-    then (if is_column_one b then found [] (drop 1 (skipped is_comment_part cs))
-    else stopped cs InlineComment)
+    then after_mark o b cs
     else if c == open_bracket then after_bracket o cs
     else unindented_pair o (c ∷ cs)

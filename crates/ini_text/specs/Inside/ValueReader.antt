@@ -1,8 +1,11 @@
 -- Reading a value by its first line, and then by steps that each take a line.
-use Rattle.std.specs.Prelude.{ℕ, ◌==◌, true, false, if◌then◌else◌, List, [], ◌∷◌, Option, Some, None}
+use Rattle.std.specs.Prelude.{ℕ, Bool, not, ◌==◌, true, false, if◌then◌else◌, List, [], ◌∷◌, Option, Some, None}
 use Rattle.ini_text.specs.Grammar.CharacterKinds.{line_feed, carriage_return, is_blank, is_inline_white}
+use Rattle.ini_text.specs.Grammar.CharacterKinds.{is_line_end}
+use Rattle.ini_text.specs.Grammar.Keys.{begins_note}
 use Rattle.ini_text.specs.Grammar.WhiteSpace.{without_outer_line_feeds}
 use Rattle.ini_text.specs.Inside.LineReader.{line}
+use Rattle.ini_text.specs.Inside.PlainTests.{begins}
 use Rattle.ini_text.specs.Inside.Reading.{Answer, found, stopped, prepend, altered_answer, Step, more, ends, go_on}
 use Rattle.ini_text.specs.Inside.Reading.{read_by}
 use Rattle.ini_text.specs.Inside.Scans.{skipped}
@@ -36,14 +39,30 @@ abbrev pub after_line : Answer ℕ → Step ℕ
 after_line (found u r) = before_end u r (after_end r)
 after_line (stopped r k) = ends (stopped r k)
 
+-- a character within a line
+abbrev pub is_line_part : ℕ → Bool
+is_line_part c = not (is_line_end c)
+
+-- what follows the note that begins after the white space of an indented line
+abbrev pub after_note : ParseOption → List ℕ → Option (List ℕ)
+after_note o t = if begins (begins_note o) t then Some (skipped is_line_part t) else None
+
+-- what follows the note of an indented comment that begins with c
+abbrev pub comment_end : ParseOption → ℕ → List ℕ → Option (List ℕ)
+comment_end o c cs = if is_blank c then after_note o (skipped is_inline_white cs) else None
+
+-- an indented line that may be a comment, of which this follows its note
+abbrev pub indented_line : ParseOption → List ℕ → Option (List ℕ) → Step ℕ
+indented_line o t (Some end) = after_line (found [] end)
+indented_line o t None = after_line (prepend (line_feed ∷ []) (line o false t))
+
 -- a line with which a value goes on; a blank is inline white
 abbrev pub row : ParseOption → List ℕ → Step ℕ
 row o [] = ends (found [] [])
 row o (c ∷ cs) =
     if c == line_feed then more (line_feed ∷ []) cs
     else if c == carriage_return then as_step (prepend (line_feed ∷ []) (empty_cr cs))
-    else if is_blank c
-    then after_line (prepend (line_feed ∷ []) (line o false (skipped is_inline_white cs)))
+    else if is_blank c then indented_line o (skipped is_inline_white cs) (comment_end o c cs)
     else ends (found [] (c ∷ cs))
 
 unfoldable pub more_lines : ParseOption → List ℕ → Answer ℕ

@@ -4,8 +4,7 @@ use Rattle.ini_text.specs.Options.Backslashes.{Backslash, Escape, Kept, Raw}
 use Rattle.ini_text.specs.declared.option.LoneLine.TheVariants.{RunsOn}
 use Rattle.ini_text.specs.declared.option.ParseOption.{ParseOption}
 
--- quotes and escapes on; multiline values, kept indentation, brackets in names and raw backslashes off; keys
--- run on
+-- quotes and escapes on; all else off; keys run on
 abbrev pub default_parse_option : ParseOption
 default_parse_option = record {
   enabled_quote = true;
@@ -14,6 +13,7 @@ default_parse_option = record {
   enabled_preserve_key_leading_whitespace = false;
   enabled_brackets_in_section_names = false;
   enabled_raw_backslash = false;
+  enabled_indented_comment = false;
   line_without_separator = RunsOn;
 }
 

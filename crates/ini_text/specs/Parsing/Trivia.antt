@@ -1,12 +1,15 @@
 -- White space and comments between items.
-use Rattle.std.specs.Prelude.{◌≡◌, ℕ, List, [], ◌++◌}
+use Rattle.std.specs.Prelude.{◌≡◌, ℕ, true, List, [], ◌∷◌, ◌++◌}
+use Rattle.ini_text.specs.Grammar.CharacterKinds.{is_line_end}
 use Rattle.ini_text.specs.Grammar.Elements.{Element}
 use Rattle.ini_text.specs.declared.option.ParseOption.{ParseOption}
 
 module _ (o : ParseOption) where
-  -- after the front b, an element that gives nothing, whatever follows it
-  abbrev pub IsTrivia : List ℕ → List ℕ → Type 0
-  IsTrivia b s = (r : List ℕ) → Element o b s r []
+  -- after the front b, an element that gives nothing, whatever follows it; or one before a line end, and that
+  pub data IsTrivia (b : List ℕ) : List ℕ → Type 0 where
+    element : {s : List ℕ} → ((r : List ℕ) → Element o b s r []) → IsTrivia b s
+    line : {s : List ℕ} {c : ℕ} → is_line_end c ≡ true → ((r : List ℕ) → Element o b s (c ∷ r) [])
+        → IsTrivia b (s ++ c ∷ [])
 
   -- the text doesn't begin with one
   abbrev pub BeginsWithNoTrivia : List ℕ → List ℕ → Type 0

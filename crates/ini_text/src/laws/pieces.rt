@@ -14,7 +14,7 @@ ghost use Rattle.ini_text.specs.declared.option.ParseOption.{ParseOption};
 /// followed it did.
 pub fn elements_are_local()
     ensures front { (o : ParseOption) (front other source follows : List ℕ) (gives : List Given)
-        → Agree front other source → Element o front source follows gives
+        → Agree o front other source → Element o front source follows gives
         → Element o other source follows gives }
     ensures follows { (o : ParseOption) (front source follows other : List ℕ) (gives : List Given)
         → BeginAlike follows other → Element o front source follows gives

@@ -1,8 +1,8 @@
 //! Elements: white space, comments, and where a header or a pair begins. This file knows headers and
 //! pairs, and no string.
 ghost use Rattle.std.specs.Prelude.{◌≡◌, ◌∷◌, true, chars, IfOk};
-ghost use Rattle.ini_text.specs.Inside.ElementReader.{element, given};
-ghost use Rattle.ini_text.specs.Inside.PlaceReader.{HasRests};
+ghost use Rattle.ini_text.specs.Inside.ElementReader.{after_mark, element, given};
+ghost use Rattle.ini_text.specs.Inside.PlaceReader.{HasRests, IsHeader};
 ghost use Rattle.ini_text.specs.Inside.Reading.{Gives};
 
 use crate::error::ParseKind;
@@ -12,7 +12,9 @@ use crate::parser::fault::Stop;
 use crate::parser::header::read_header;
 use crate::parser::pair::{read_indented, read_unindented};
 use crate::parser::rests::Rests;
-use crate::text::{Class, after_first, is_column_one, is_comment_mark, skip_line, starts_line};
+use crate::text::{
+    Class, after_first, is_column_one, is_comment_mark, skip_line, skip_note, starts_line,
+};
 use std::alloc::Global;
 
 // element = gap / comment / header / pair / dropped-tail
@@ -46,17 +48,33 @@ pub(crate) fn read_element<'a>(
         return Ok((None, after));
     }
     if is_comment_mark(c) {
-        if !is_column_one(front) {
-            return Err(Stop::new(
-                ParseKind::InlineComment,
-                "doesn't support inline comment",
-                after,
-            ));
-        }
-        return Ok((None, after_first(skip_line(after))));
+        return read_comment(front, after, read);
     }
     if c == '[' {
         return read_header(alloc, scratch, after, read);
     }
     read_unindented(alloc, scratch, rests, places, text, read)
+}
+
+// comment = mark *(any but LF) [LF], in column one; with indented comments a note where a line starts besides
+/// A comment after its mark.
+fn read_comment<'a>(
+    front: &str,
+    after: &'a str,
+    read: ParseOption,
+) -> Result<(Option<BorrowedItem<'a>>, &'a str), Stop<'a>>
+    ensures gives { Gives given result (after_mark read (chars front.now) (chars after.now)) }
+    ensures nothing { IfOk result (λ p. IsHeader p.0) }
+{
+    if is_column_one(front) {
+        return Ok((None, after_first(skip_line(after))));
+    }
+    if read.enabled_indented_comment && starts_line(front) {
+        return Ok((None, skip_note(after)));
+    }
+    Err(Stop::new(
+        ParseKind::InlineComment,
+        "doesn't support inline comment",
+        after,
+    ))
 }

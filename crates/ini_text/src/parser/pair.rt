@@ -21,7 +21,7 @@ use crate::parser::rests::Rests;
 use crate::parser::string::read_string;
 use crate::parser::trimmed::read_trimmed;
 use crate::parser::value::read_value;
-use crate::text::{Class, front_before, is_line_end, skip, split_first, trim};
+use crate::text::{Class, front_before, is_line_end, skip, skip_note, split_first, trim};
 use std::alloc::Global;
 use std::borrow::CowStr;
 
@@ -47,8 +47,8 @@ pub(crate) fn read_unindented<'a>(
     read_pair(alloc, scratch, rests, places, key, rest, read)
 }
 
-// gap / 1*blank key separator value / dropped-tail, where blanks begin a line
-/// What a line gives that begins with blanks: a gap, a dropped tail, or a pair whose key is indented.
+// gap / 1*blank note / 1*blank key separator value / dropped-tail, where blanks begin a line
+/// What a line gives that begins with blanks: nothing, or a pair whose key is indented.
 pub(crate) fn read_indented<'a>(
     alloc: Global,
     scratch: &mut String,
@@ -71,6 +71,9 @@ pub(crate) fn read_indented<'a>(
     }
     if c == '[' {
         return Ok((None, start));
+    }
+    if read.begins_note(c) {
+        return Ok((None, skip_note(after)));
     }
     match read_indented_key(alloc, scratch, front_before(text, start), start, read) {
         Ok((key, rest)) => read_pair(alloc, scratch, rests, places, key, rest, read),

@@ -9,7 +9,7 @@ ghost use Rattle.ini_text.specs.Grammar.WhiteSpace.{without_outer_line_feeds};
 ghost use Rattle.ini_text.specs.Inside.PlaceReader.{HasLines, HasTail, TailSoFar};
 ghost use Rattle.ini_text.specs.Inside.Reading.{Appends, Gives, StopsBy};
 ghost use Rattle.ini_text.specs.Inside.Scans.{skipped};
-ghost use Rattle.ini_text.specs.Inside.ValueReader.{after_end, empty_cr, value};
+ghost use Rattle.ini_text.specs.Inside.ValueReader.{after_end, comment_end, empty_cr, value};
 ghost use Rattle.ini_text.specs.Parsing.Items.{cow_text, string_text};
 
 use crate::error::ParseKind;
@@ -17,7 +17,7 @@ use crate::option::ParseOption;
 use crate::parser::fault::Stop;
 use crate::parser::line::{read_first_line, read_line};
 use crate::parser::rests::Rests;
-use crate::text::{Class, is_line_end, push, skip, split_first, split_last};
+use crate::text::{Class, is_line_end, push, skip, skip_note, split_first, split_last};
 use std::alloc::{AllocError, Global};
 use std::borrow::CowStr;
 
@@ -122,7 +122,7 @@ pub(crate) fn after_cr(text: &str) -> Result<&str, Stop<'_>>
     }
 }
 
-// more-lines = *(LF / CR LF / blank *inline-white line (line-end / end))
+// more-lines = *(LF / CR LF / blank *inline-white (line / note) (line-end / end))
 /// Appends the lines with which a value goes on after its first line end, and gives what follows the last of
 /// them that gives more than line feeds, and what follows all. The value's text and where it starts are named
 /// for the clauses alone.
@@ -154,6 +154,11 @@ fn read_more<'a>(
         } else if c == '\r' {
             rest = after_cr(after)?;
             push(out, '\n')?;
+        } else if let Some(end) = comment_end(c, after, read) {
+            let Some(next) = after_line_end(end) else {
+                return Ok((tail, end));
+            };
+            rest = next;
         } else if Class::Blank.contains(c) {
             push(out, '\n')?;
             let len = out.len();
@@ -170,6 +175,21 @@ fn read_more<'a>(
         }
     }
     Ok((tail, rest))
+}
+
+/// What follows the note of an indented comment that begins with `c`.
+fn comment_end<'a>(c: char, after: &'a str, read: ParseOption) -> Option<&'a str>
+    ensures { comment_end read c (chars after.now) ≡ option_map (λ rest. chars rest.now) result }
+{
+    if !read.enabled_indented_comment || !Class::Blank.contains(c) {
+        return None;
+    }
+    let start = skip(after, Class::InlineWhite);
+    let (mark, _) = split_first(start)?;
+    if !read.begins_note(mark) {
+        return None;
+    }
+    Some(skip_note(start))
 }
 
 /// Whether what stands after so many bytes is more than line feeds.

@@ -110,3 +110,33 @@ fn options_make_it_right(rt: HostRuntime) -> Result<(), Fail> {
     let rows = [("p=C:\\\nq=1\n", ""), ("p=\"C:\\\"\nq=1\n", "")];
     expect_traps(&rt, read, &rows)
 }
+
+#[test]
+fn indented_comments_are_no_traps(rt: HostRuntime) -> Result<(), Fail> {
+    let mut read = ParseOption::default();
+    read.enabled_indented_comment = true;
+    let rows = [
+        ("  ; note\nk = v\n  #k = v\n\t# C:\\temp", ""),
+        ("k=v\r# c\rj=w\r  # d\ri=x", ""),
+        ("; c\rk=v", "1:4 lone-cr;"),
+        ("  \\;k = v", "1:1 not-plain;"),
+        ("one\n  ; c\ntwo = 2", "1:1 runs-on;"),
+        ("k = ; note", "1:5 mark-in-value;"),
+        ("a=1\n  ; c\n  port 80", "3:1 dropped-line;"),
+    ];
+    expect_traps(&rt, read, &rows)?;
+    read.enabled_indented_mutiline_value = true;
+    let rows = [
+        ("k = v\n  ; 'tis C:\\\n  w", ""),
+        ("k = v\n  ; C:\\temp\n  w", ""),
+        ("k = v\n  ; c\u{A0}\n", ""),
+        ("k = v\u{A0}\n  ; c\n", "1:5 odd-space;"),
+        (
+            "k = v\n  ; c\\\n  [b]\n  i = 2",
+            "3:3 header-in-value;4:3 pair-in-value;",
+        ),
+        ("k = \"v\n  ; c\"\n", "1:5 unclosed-quote;"),
+        ("k = v\n; c\n  w = x ; d", "3:7 mark-in-value;"),
+    ];
+    expect_traps(&rt, read, &rows)
+}

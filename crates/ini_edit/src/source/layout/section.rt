@@ -50,7 +50,7 @@ impl<'a> SourceSection<'a> {
         if is_last {
             return "";
         }
-        self.rest(front, false).gap
+        self.rest_before_header(front).gap
     }
 
     // Appends what follows the header, laid out.

@@ -12,14 +12,13 @@ ghost use Rattle.ini_edit.specs.SourceLines.{is_empty};
 
 use crate::append::{push, push_more, push_text};
 use crate::glue::{TextEnd, text_end};
-use crate::source::lines::{
-    after_line_end, blank_lines_at_end, ends_line, is_empty, last_or, line_end_at_end,
-};
+use crate::source::lines::{after_line_end, is_empty, last_or, line_end_at_end};
 use crate::source::pair::SourcePair;
+use crate::source::quiet_lines::{ends_line, quiet_lines_at_end};
 use ini_text::{Error, ParseOption, front_before};
 use std::alloc::Global;
 
-/// What follows a pair's value: the lines that go with the pair, up to the line end after them; blank lines;
+/// What follows a pair's value: the lines that go with the pair, up to the line end after them; quiet lines;
 /// and where values are multiline, the gap after these.
 #[derive(Clone, Copy, Debug)]
 pub(crate) struct PairEnd<'t> {
@@ -48,7 +47,7 @@ impl<'a> SourcePair<'a> {
     {
         if read.enabled_indented_mutiline_value {
             let trailing_lines = self.trailing_lines();
-            let lines = blank_lines_at_end(trailing_lines, read);
+            let lines = quiet_lines_at_end(trailing_lines, read);
             let own = front_before(trailing_lines, lines);
             let line_end = if ends_line(own, read) {
                 line_end_at_end(own)

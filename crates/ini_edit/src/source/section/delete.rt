@@ -1,15 +1,19 @@
 //! Pairs taken out of a section. This file knows what follows a pair, and the mark of a comment.
-ghost use Rattle.std.specs.Prelude.{◌≡◌, ◌<◌, IfOk, IsOkUnless, OnErr, OnOk, alloc_error, chars, length};
-ghost use Rattle.ini_edit.specs.Inside.SourceEnds.{IsPlaceAt, IsWithout, at_end, goes_after};
-ghost use Rattle.ini_edit.specs.SourceEditsDelete.{pair_taken_out};
+ghost use Rattle.std.specs.Prelude.{◌≡◌, ◌<◌, ◌&&◌, [], ◌∷◌, IfOk, IsOkUnless, OnErr, OnOk, alloc_error};
+ghost use Rattle.std.specs.Prelude.{chars, length};
+ghost use Rattle.ini.specs.Texts.{is_text};
+ghost use Rattle.ini_text.specs.Grammar.CharacterKinds.{carriage_return, is_line_end};
+ghost use Rattle.ini_edit.specs.Inside.SourceEnds.{IsPlaceAt, IsWithout, at_end};
+ghost use Rattle.ini_edit.specs.SourceEditsDelete.{goes_after, left_after, pair_taken_out};
+ghost use Rattle.ini_edit.specs.SourceLines.{ends_alike};
 ghost use Rattle.ini_edit.specs.SourcePlaces.{Place};
 ghost use Rattle.ini_edit.specs.Sources.{PairPiece};
 
 use crate::append::push_text;
+use crate::source::lines::last_or;
 use crate::source::pair::SourcePair;
 use crate::source::pair::ends::PairEnd;
 use crate::source::section::SourceSection;
-use crate::source::section::ends::unless;
 use crate::text::begins_with_comment;
 use ini_text::{Error, ParseOption, is_comment_mark, is_line_end, is_same_text, split_first};
 use std::alloc::Global;
@@ -32,9 +36,8 @@ impl<'a> SourceSection<'a> {
     {
         let end = self.pairs[index].end(read);
         let mut lines = String::new(alloc);
-        if !goes_with_line_end(self.last_before(front, index), end) {
-            push_text(&mut lines, end.line_end)?;
-        }
+        let left = line_end_left(self.last_before(front, index), end, read);
+        push_text(&mut lines, left)?;
         push_text(&mut lines, end.lines)?;
         let rest = self.rest_put(alloc, index, lines.as_str(), end.gap, read)?;
         let pair = self.pairs.remove(index);
@@ -85,18 +88,55 @@ impl<'a> SourceSection<'a> {
         ensures only { IsOkUnless result (Error.Memory alloc_error) }
     {
         let end = pair.end(read);
-        let goes = goes_with_line_end(self.last_char(front), end);
-        self.push_rest(alloc, unless(goes, end.line_end), end.lines, end.gap, read)
+        let left = line_end_left(self.last_char(front), end, read);
+        self.push_rest(alloc, left, end.lines, end.gap, read)
     }
+}
+
+// What stays of a pair's line end, after a front that ends so.
+fn line_end_left(last: char, end: PairEnd<'_>, read: ParseOption) -> &'static str
+    ensures { chars result.now ≡ left_after read.enabled_indented_mutiline_value last
+        (chars end.entry.line_end.now) (chars end.entry.lines.now) (chars end.entry.gap.now) }
+{
+    if goes_with_line_end(last, end) {
+        return "";
+    }
+    if takes_blank(last, end.line_end, read) {
+        return " \r";
+    }
+    end.line_end
+}
+
+// Whether a blank goes before the line end: a CR alone, at which a multiline value would stop.
+fn takes_blank(last: char, line_end: &str, read: ParseOption) -> bool
+    ensures { result ≡ (read.enabled_indented_mutiline_value
+        && (is_line_end last && is_text (chars line_end.now) (carriage_return ∷ []))) }
+{
+    read.enabled_indented_mutiline_value && is_line_end(last) && is_return(line_end)
+}
+
+// Whether a text is CR alone.
+fn is_return(text: &str) -> bool
+    ensures { result ≡ is_text (chars text.now) (carriage_return ∷ []) }
+{
+    is_same_text(text, "\r")
 }
 
 // Whether a pair's line end may go with it, after a front that ends so.
 fn goes_with_line_end(last: char, end: PairEnd<'_>) -> bool
-    ensures { result ≡ goes_after last (chars end.entry.lines.now) (chars end.entry.gap.now) }
+    ensures { result ≡ goes_after last (chars end.entry.line_end.now) (chars end.entry.lines.now)
+        (chars end.entry.gap.now) }
 {
     let is_marked = match split_first(end.lines) {
         Some((c, _)) => is_comment_mark(c),
         None => begins_with_comment(end.gap),
     };
-    is_line_end(last) && (last == '\n' || !is_marked)
+    is_line_end(last) && (ends_alike(last, last_or(last, end.line_end)) || !is_marked)
+}
+
+// Whether both characters are line feeds, or neither is.
+fn ends_alike(a: char, b: char) -> bool
+    ensures { result ≡ ends_alike a b }
+{
+    if a == '\n' { b == '\n' } else { b != '\n' }
 }

@@ -12,8 +12,8 @@ ghost use Rattle.ini.specs.Texts.{Text, str_text};
 ghost use Rattle.ini_edit.specs.Inside.SourceEnds.{IsKept, end_put_last, raw_value_of, takes_lines};
 ghost use Rattle.ini_edit.specs.SourceEditsAdd.{closed_value};
 ghost use Rattle.ini_edit.specs.SourceEditsSections.{ended_for_section, ends_empty, is_ended_for};
-ghost use Rattle.ini_edit.specs.SourceEditsSections.{is_pair_ended, line_end_before, section_rest};
-ghost use Rattle.ini_edit.specs.SourceEditsSections.{with_rest_of_next};
+ghost use Rattle.ini_edit.specs.SourceEditsSections.{is_pair_ended, line_end_before, rest_before_header};
+ghost use Rattle.ini_edit.specs.SourceEditsSections.{section_rest, with_rest_of_next};
 ghost use Rattle.ini_edit.specs.SourceLines.{is_empty};
 ghost use Rattle.ini_edit.specs.SourcePlaces.{is_nil, last_before_gap, last_gap};
 ghost use Rattle.ini_edit.specs.Sources.{PairPiece, section_text};
@@ -57,20 +57,30 @@ impl<'a> SourceSection<'a> {
 
     /// What stays of the section where another header follows, or none; `front` is the last character before
     /// it.
-    pub(crate) fn rest(&self, front: char, is_last: bool) -> SectionRest<'_>
+    pub(crate) fn rest(&self, front: char, is_last: bool, read: ParseOption) -> SectionRest<'_>
         ensures gap { chars result.gap.now
-            ≡ section_rest is_last (last_before_gap front self.now self.now.pairs) (last_gap self.now) }
+            ≡ section_rest read is_last (last_before_gap front self.now self.now.pairs) (last_gap self.now) }
+        ensures before { chars result.before.now ≡ front_of (last_gap self.now) (chars result.gap.now) }
+    {
+        if !is_last {
+            return self.rest_before_header(front);
+        }
+        let gap = self.last_gap();
+        let rest = dropped_key(self.last_before_gap(front, self.count()), gap, read);
+        SectionRest {
+            gap: rest,
+            before: front_before(gap, rest),
+        }
+    }
+
+    /// The comments directly above the header that follows the section, and what indents that.
+    pub(crate) fn rest_before_header(&self, front: char) -> SectionRest<'_>
+        ensures gap { chars result.gap.now
+            ≡ rest_before_header (last_before_gap front self.now self.now.pairs) (last_gap self.now) }
         ensures before { chars result.before.now ≡ front_of (last_gap self.now) (chars result.gap.now) }
     {
         let gap = self.last_gap();
         let before_gap = self.last_before_gap(front, self.count());
-        if is_last {
-            let rest = dropped_key(before_gap, gap);
-            return SectionRest {
-                gap: rest,
-                before: front_before(gap, rest),
-            };
-        }
         let indentation = indentation_at_end(before_gap, gap);
         let before_indentation = front_before(gap, indentation);
         let comments = comments_at_end(before_gap, before_indentation);

@@ -3,8 +3,11 @@ ghost use Rattle.std.specs.Prelude.{◌≡◌, ◌==◌, ◌+◌, ◌<◌, ◌�
 ghost use Rattle.std.specs.Prelude.{OnOk, Some, alloc_error, chars, if◌then◌else◌, length, not, take};
 ghost use Rattle.ini_text.specs.Options.WriteOptions.{line_end};
 ghost use Rattle.ini_text.specs.Parsing.Items.{string_text};
-ghost use Rattle.ini_edit.specs.Inside.SourceEnds.{IsNoPlaceOrMemory, IsPlaceAt, made_pair, trailing_of};
-ghost use Rattle.ini_edit.specs.SourceEditsAdd.{pair_put_after, pair_put_before, pair_put_last, would_go_on};
+ghost use Rattle.ini_edit.specs.Inside.SourceEnds.{IsNoPlaceOrMemory, IsPlaceAt, made_pair, place_of};
+ghost use Rattle.ini_edit.specs.Inside.SourceEnds.{trailing_of};
+ghost use Rattle.ini_edit.specs.SourceEditsAdd.{end_after, end_at, pair_put_after, pair_put_before};
+ghost use Rattle.ini_edit.specs.SourceEditsAdd.{pair_put_last, would_go_on};
+ghost use Rattle.ini_edit.specs.SourceEditsDelete.{line_end_after};
 ghost use Rattle.ini_edit.specs.SourceLines.{is_empty};
 ghost use Rattle.ini_edit.specs.SourcePlaces.{Place};
 ghost use Rattle.ini_edit.specs.Sources.{PairPiece};
@@ -12,10 +15,11 @@ ghost use Rattle.ini_edit.specs.Sources.{PairPiece};
 use crate::append::push_text;
 use crate::error::EditError;
 use crate::source::lines::{comments_at_end, is_empty, last_or};
-use crate::source::pair::ends::NewEnd;
-use crate::source::place::place_for_first;
+use crate::source::pair::ends::{NewEnd, PairEnd};
+use crate::source::place::{GapPlace, place_for_first};
 use crate::source::section::SourceSection;
 use crate::source::written::{NewPair, is_indented};
+use crate::text::begins_with_comment;
 use ini_text::{Error, LineSeparator, ParseOption, front_before, is_line_end};
 use std::alloc::{AllocError, Global};
 
@@ -59,7 +63,7 @@ impl<'a> SourceSection<'a> {
         ensures only { IsOkUnless result (Error.Memory alloc_error) }
     {
         let old = self.pairs[index].end(read);
-        let lines = ended(alloc, end, old.lines)?;
+        let lines = ended(alloc, end_after(end, old, read), old.lines)?;
         let is_indented = !read.enabled_indented_mutiline_value;
         let pair = pair.before(alloc, is_indented, lines, old.gap, read)?;
         let new = self.pairs[index].with_line_end(alloc, end.as_str(), read)?;
@@ -100,7 +104,7 @@ impl<'a> SourceSection<'a> {
             return Err(EditError::NoPlace);
         };
         let before = with_line_end(alloc, place.before, place.is_line_start, end)?;
-        let lines = ended(alloc, end, place.lines)?;
+        let lines = ended(alloc, end_at(end, place), place.lines)?;
         let pair = pair.before(alloc, true, lines, place.after, read)?;
         self.pairs.insert(0, pair).map_err(AllocError::from)?;
         self.put_after(before);
@@ -134,7 +138,7 @@ impl<'a> SourceSection<'a> {
             return Err(EditError::NoPlace);
         }
         let kept = front_before(gap, comments);
-        let lines = ended(alloc, end, "")?;
+        let lines = ended(alloc, end.as_str(), "")?;
         let is_indented = may_be_indented(read, index, kept);
         let pair = pair.before(alloc, is_indented, lines, comments, read)?;
         let starts = is_line_end(last_or(before_gap, kept));
@@ -171,12 +175,38 @@ impl<'a> SourceSection<'a> {
     }
 }
 
-// The line end of a new line, and lines after it.
-fn ended(alloc: Global, end: LineSeparator, lines: &str) -> Result<String, Error>
-    ensures text { IfOk result (λ text. string_text text ≡ line_end end ++ chars lines.now) }
+// The line end of a new pair after one of this end: CR alone after that, where indented comments are on.
+fn end_after(end: LineSeparator, old: PairEnd<'_>, read: ParseOption) -> &'static str
+    ensures { (p : PairPiece) → chars old.entry.line_end.now ≡ line_end_after read p
+        → chars result.now ≡ end_after read (line_end end) p }
+{
+    if read.enabled_indented_comment && last_or('\n', old.line_end) == '\r' {
+        return "\r";
+    }
+    end.as_str()
+}
+
+// The line end of a new pair at a place: CR alone before a comment behind CR.
+fn end_at(end: LineSeparator, place: GapPlace<'_>) -> &'static str
+    ensures { chars result.now ≡ end_at (line_end end) (place_of place.entry) }
+{
+    let is_comment = if is_empty(place.lines) {
+        begins_with_comment(place.after)
+    } else {
+        begins_with_comment(place.lines)
+    };
+    if is_comment && last_or('\n', place.before) != '\n' {
+        return "\r";
+    }
+    end.as_str()
+}
+
+// A line end, and lines after it.
+fn ended(alloc: Global, end: &str, lines: &str) -> Result<String, Error>
+    ensures text { IfOk result (λ text. string_text text ≡ chars end.now ++ chars lines.now) }
     ensures only { IsOkUnless result (Error.Memory alloc_error) }
 {
-    let mut text = String::from_str(alloc, end.as_str())?;
+    let mut text = String::from_str(alloc, end)?;
     push_text(&mut text, lines)?;
     Ok(text)
 }

@@ -78,7 +78,7 @@ impl Random {
     /// Some of the options' letters.
     pub(crate) fn letters(&mut self, alloc: Global) -> Result<String, Error> {
         let mut letters = String::new(alloc);
-        for letter in &["q", "e", "m", "k", "b", "r", "l"] {
+        for letter in &["q", "e", "m", "k", "b", "r", "l", "c"] {
             if self.is_even() {
                 letters.push_str(letter)?;
             }

@@ -5,7 +5,7 @@ use ini_text::LoneLine;
 use std::alloc::Global;
 
 /// What a letter turns on: quotes, escapes, multiline values, kept indentation, brackets in names, raw
-/// backslashes, and that lines without separator are refused.
+/// backslashes, indented comments, and that lines without separator are refused.
 pub(crate) fn options_of(letters: &str) -> ParseOption {
     ParseOption {
         enabled_quote: letters.contains('q'),
@@ -14,6 +14,7 @@ pub(crate) fn options_of(letters: &str) -> ParseOption {
         enabled_preserve_key_leading_whitespace: letters.contains('k'),
         enabled_brackets_in_section_names: letters.contains('b'),
         enabled_raw_backslash: letters.contains('r'),
+        enabled_indented_comment: letters.contains('c'),
         line_without_separator: if letters.contains('l') {
             LoneLine::Refused
         } else {

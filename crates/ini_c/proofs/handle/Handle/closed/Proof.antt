@@ -49,6 +49,7 @@ no_kept = record {
       enabled_preserve_key_leading_whitespace = false;
       enabled_brackets_in_section_names = false;
       enabled_raw_backslash = false;
+      enabled_indented_comment = false;
       line_without_separator = RunsOn;
     };
     sections = [];

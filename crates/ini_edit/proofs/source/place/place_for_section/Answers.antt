@@ -9,11 +9,11 @@ use Rattle.ini_edit.proofs.source.place.place_for_section.Goals as goal
 pub front_before-front-requires : goal.front_before-front-requires
 front_before-front-requires c =
     let gap = chars c.args.gap.now in
-    subst (IsRest gap) (sym c.dropped_key-dropped.ensures) (dropped_key-rest false c.args.before gap)
+    subst (IsRest gap) (sym c.dropped_key-dropped.ensures) (dropped_key-rest c.args.read c.args.before gap)
 
 pub front_before-requires : goal.front_before-requires
 front_before-requires c =
-    from_last_solid-rest false (chars c.front_before-front.result.now) (chars c.in_ok-solid.solid.now)
+    from_last_solid-rest c.args.before (chars c.front_before-front.result.now) (chars c.in_ok-solid.solid.now)
     (sym c.in_ok-solid.ensures)
 
 pub cut_after-requires : goal.cut_after-requires
@@ -23,9 +23,9 @@ cut_after-requires c =
     let solid = chars c.in_ok-solid.solid.now in
     let front = c.front_before-front.ensures in
     let within = subst (IsRest gap) (sym c.dropped_key-dropped.ensures)
-    (dropped_key-rest false c.args.before gap) in
-    let rest = from_last_solid-rest false (front_of gap dropped) solid
-    (sym (c.in_ok-solid.ensures ∙ ap (from_last_solid false) front)) in
+    (dropped_key-rest c.args.read c.args.before gap) in
+    let rest = from_last_solid-rest c.args.before (front_of gap dropped) solid
+    (sym (c.in_ok-solid.ensures ∙ ap (from_last_solid c.args.before) front)) in
     subst (λ k. k ++ drop (length k) gap ≡ gap)
     (sym (c.front_before.ensures ∙ ap (λ f. front_of f solid) front))
     (kept_whole gap dropped solid within rest)
@@ -36,10 +36,10 @@ returns c =
     let dropped = chars c.dropped_key-dropped.result.now in
     let solid = chars c.in_ok-solid.solid.now in
     let front = c.front_before-front.ensures in
-    let found = sym (c.in_ok-solid.ensures ∙ ap (from_last_solid false) front) in
+    let found = sym (c.in_ok-solid.ensures ∙ ap (from_last_solid c.args.before) front) in
     let within = subst (IsRest gap) (sym c.dropped_key-dropped.ensures)
-    (dropped_key-rest false c.args.before gap) in
-    let rest = from_last_solid-rest false (front_of gap dropped) solid found in
+    (dropped_key-rest c.args.read c.args.before gap) in
+    let rest = from_last_solid-rest c.args.before (front_of gap dropped) solid found in
     let kept = c.front_before.ensures ∙ ap (λ f. front_of f solid) front in
     let after = c.cut_after.ensures.rest ∙ ap (λ k. drop (length k) gap) kept
     ∙ solid_after gap dropped solid within rest in (

@@ -2,7 +2,7 @@ use Rattle.std.proofs.Common.{◌∙◌, ap, chars, subst}
 use Rattle.ini_text.specs.Inside.ElementReader.{dropped_tail, indented_pair_of_key}
 use Rattle.ini_text.specs.Inside.Reading.{stopped, StopsBy}
 use Rattle.ini_text.specs.declared.error.ParseKind.TheVariants.{EndOfText}
-use Rattle.ini_text.proofs.ReaderLemmas.ElementReaderLemmas.{not_dropped, refused_stays, runs_on}
+use Rattle.ini_text.proofs.ReaderLemmas.KeyReaderLemmas.{not_dropped, refused_stays, runs_on}
 use Rattle.ini_text.proofs.parser.pair.drop_tail.Goals as goal
 
 pub returns-in-Refused-clause-gives : goal.returns-in-Refused-clause-gives

@@ -5,7 +5,8 @@ use Rattle.ini_text.specs.Inside.Reading.{Gives, prepend}
 use Rattle.ini_text.specs.Inside.Scans.{run_of}
 use Rattle.ini_text.proofs.PlaceLemmas.PairLemmas.{header_rests, unaltered, value_rests}
 use Rattle.ini_text.proofs.ReaderLemmas.ReaderLemmas.{read_after}
-use Rattle.ini_text.proofs.ReaderLemmas.ElementReaderLemmas.{blanks_front, key_at}
+use Rattle.ini_text.proofs.ReaderLemmas.KeyReaderLemmas.{key_at}
+use Rattle.ini_text.proofs.ReaderLemmas.ElementReaderLemmas.{blanks_front}
 use Rattle.ini_text.proofs.parser.pair.read_indented.Goals as goal
 
 pub front_before-requires : goal.front_before-requires
@@ -18,7 +19,7 @@ returns-in-Ok-clause-gives c =
     let start = chars c.skip-start.result.now in
     let read =
     key_at o w c.in-Some.ensures.characters (sym c.is_line_end.ensures ∙ c.if-is_line_end.false)
-    c.if-c-eq91.false
+    c.if-c-eq91.false (sym c.begins_note.ensures ∙ c.if-begins_note.false)
     ∙ ap (λ b. indented_pair_of_key o (trimmed_key o (prepend (kept_blanks o b)
     (key_string o start))))
     (sym (c.front_before.ensures ∙ (blanks_front c.skip-start.ensures).0))
@@ -33,7 +34,7 @@ returns-in-Err-clause-gives c =
     let start = chars c.skip-start.result.now in
     let read =
     key_at o w c.in-Some.ensures.characters (sym c.is_line_end.ensures ∙ c.if-is_line_end.false)
-    c.if-c-eq91.false
+    c.if-c-eq91.false (sym c.begins_note.ensures ∙ c.if-begins_note.false)
     ∙ ap (λ b. indented_pair_of_key o (trimmed_key o (prepend (kept_blanks o b)
     (key_string o start))))
     (sym (c.front_before.ensures ∙ (blanks_front c.skip-start.ensures).0)) in

@@ -6,7 +6,7 @@ use Rattle.ini_text.specs.Inside.PlaceReader.{HasTail}
 use Rattle.ini_text.specs.Parsing.Items.{cow_text}
 use Rattle.ini_text.proofs.StringLemmas.PushLemmas.{no_characters, some_characters}
 use Rattle.ini_text.proofs.ReaderLemmas.ReaderLemmas.{passed}
-use Rattle.ini_text.proofs.ReaderLemmas.ElementReaderLemmas.{separated, value_after}
+use Rattle.ini_text.proofs.ReaderLemmas.KeyReaderLemmas.{separated, value_after}
 use Rattle.ini_text.proofs.parser.pair.read_pair.Goals as goal
 
 pub returns-in_default-clause-gives : goal.returns-in_default-clause-gives

@@ -7,9 +7,9 @@ use Rattle.ini_text.specs.Grammar.CharacterKinds.{is_line_feed, line_feed}
 use Rattle.ini_text.specs.Grammar.WhiteSpace.{without_outer_line_feeds}
 use Rattle.ini_text.specs.Inside.PlaceReader.{HasTail, TailSoFar}
 use Rattle.ini_text.specs.Parsing.Items.{string_text}
-use Rattle.ini_text.proofs.PlaceLemmas.TailLemmas.{tail_lf, tail_cr_lf, tail_stops, tail_line_stops, tail_other, tail_at_end, last_line-empty, last_line-own, line_shorter, line-empty, line-own}
+use Rattle.ini_text.proofs.PlaceLemmas.TailLemmas.{tail_comment, tail_comment-last, tail_comment-shorter, tail_lf, tail_cr_lf, tail_stops, tail_line_stops, tail_other, tail_at_end, last_line-empty, last_line-own, line_shorter, line-empty, line-own}
 use Rattle.ini_text.proofs.ReaderLemmas.ReaderLemmas.{passed, read_after, stopped_after}
-use Rattle.ini_text.proofs.ReaderLemmas.ValueReaderLemmas.{empty_cr_stops}
+use Rattle.ini_text.proofs.ReaderLemmas.LineTurnLemmas.{empty_cr_stops}
 use Rattle.ini_text.proofs.StringLemmas.PushLemmas.{grown}
 use Rattle.ini_text.proofs.parser.value.read_more.Goals.{then-gives_more, else-gives_more}
 use Rattle.ini_text.proofs.parser.value.read_more.Goals as goal
@@ -45,11 +45,29 @@ lines-preserved-in-Continue-branch-3 c = record {
       c.if-c-eq13.true c.in_ok-rest.ensures);
 }
 
+pub returns-in_default-after_line_end : goal.returns-in_default-after_line_end
+returns-in_default-after_line_end c =
+    tail_comment-last c.args.read c.requires.starts c.requires.multiline c.lines.invariant.known
+    c.in-Some.ensures.characters c.in-Some-comment_end.ensures c.in_default-after_line_end.ensures
+
+pub lines-smaller-in-Some-comment_end : goal.lines-smaller-in-Some-comment_end
+lines-smaller-in-Some-comment_end c =
+    tail_comment-shorter c.args.read c.requires.starts c.requires.multiline c.lines.invariant.known
+    c.in-Some.ensures.characters c.in-Some-comment_end.ensures c.in-Some-after_line_end.ensures
+
+pub lines-preserved-in-Some-comment_end : goal.lines-preserved-in-Some-comment_end
+lines-preserved-in-Some-comment_end c = record {
+  tail_text = search rules;
+  text = search rules;
+  known = tail_comment c.args.read c.requires.starts c.requires.multiline c.lines.invariant.known
+      c.in-Some.ensures.characters c.in-Some-comment_end.ensures c.in-Some-after_line_end.ensures;
+}
+
 pub returns-in_err-end : goal.returns-in_err-end
 returns-in_err-end c =
     passed _ _ _ c.from_residual-in_err-end.ensures.1 c.in_err-end.ensures
     (λ r k h. tail_line_stops c.args.read c.requires.starts c.lines.invariant.known
-    c.in-Some.ensures.characters (sym c.contains.ensures ∙ c.if-contains.true) c.skip.ensures
+    c.in-Some.ensures.characters (sym c.contains.ensures ∙ c.if-contains.true) c.in_default-comment_end.ensures c.skip.ensures
     (stopped_after _ _ h))
 
 pub gives_more-requires : goal.gives_more-requires
@@ -61,8 +79,8 @@ gives_more-requires c =
     (subst (IsCharBoundary (string_bytes c.read_line.new.out))
     (sym (c.len-len.ensures ∙ c.push-then-contains.new.out.bytes.ok.0)) g.cut)
 
-pub returns-in_default-after_line_end : goal.returns-in_default-after_line_end
-returns-in_default-after_line_end c =
+pub returns-in_default-after_line_end-2 : goal.returns-in_default-after_line_end-2
+returns-in_default-after_line_end-2 c =
     let read = read_after _ _ c.in_ok-end.ensures in
     let u = read.0 in
     let old = string_text c.lines.out in
@@ -83,15 +101,15 @@ returns-in_default-after_line_end c =
           end (without_outer_line_feeds x) end) given_is
           (last_line-own c.args.read c.requires.starts c.requires.multiline
           c.lines.invariant.known c.in-Some.ensures.characters
-          (sym c.contains.ensures ∙ c.if-contains.true) c.skip.ensures read.1
-          c.in_default-after_line_end.ensures (not-true _ (sym tells ∙ w.if-gives_more.true))))
+          (sym c.contains.ensures ∙ c.if-contains.true) c.in_default-comment_end.ensures c.skip.ensures read.1
+          c.in_default-after_line_end-2.ensures (not-true _ (sym tells ∙ w.if-gives_more.true))))
       | else-gives_more w ↦
           rw w.tail-is (subst (λ x. HasTail c.args.read (chars c.args.text.now) (chars c.args.start.now)
           (chars c.lines.tail.now) (without_outer_line_feeds x) end) given_is
           (last_line-empty c.args.read c.requires.starts c.requires.multiline
           c.lines.invariant.known c.in-Some.ensures.characters
-          (sym c.contains.ensures ∙ c.if-contains.true) c.skip.ensures read.1
-          c.in_default-after_line_end.ensures (not-false _ (sym tells ∙ w.if-gives_more.false))))
+          (sym c.contains.ensures ∙ c.if-contains.true) c.in_default-comment_end.ensures c.skip.ensures read.1
+          c.in_default-after_line_end-2.ensures (not-false _ (sym tells ∙ w.if-gives_more.false))))
     ]
 
 pub lines-smaller : goal.lines-smaller
@@ -99,7 +117,7 @@ lines-smaller c =
     let read = read_after _ _ c.in_ok-end.ensures in
     line_shorter c.args.read c.requires.starts c.requires.multiline
     c.lines.invariant.known c.in-Some.ensures.characters
-    (sym c.contains.ensures ∙ c.if-contains.true) c.skip.ensures read.1 c.in-Some-after_line_end.ensures
+    (sym c.contains.ensures ∙ c.if-contains.true) c.in_default-comment_end.ensures c.skip.ensures read.1 c.in-Some-after_line_end-2.ensures
 
 pub lines-preserved : goal.lines-preserved
 lines-preserved c =
@@ -116,7 +134,7 @@ lines-preserved c =
     c.gives_more.ensures ∙ ap (λ x. not (list_all is_line_feed x)) line_is in
     let given_is : old ++ (line_feed ∷ u) ≡ string_text c.read_line.new.out =
     sym (read.2 ∙ ap (λ x. x ++ u) c.in_ok-push-3.ensures ∙ append_assoc old (line_feed ∷ []) u) in
-    let next = chars c.in-Some-after_line_end.next.now in
+    let next = chars c.in-Some-after_line_end-2.next.now in
     elim c.if-gives_more.branch [
       | then-gives_more w ↦
           rw w.tail-is record {
@@ -126,8 +144,8 @@ lines-preserved c =
                 (chars c.in_ok-end.end.now) next) given_is
                 (line-own c.args.read c.requires.starts c.requires.multiline
                 c.lines.invariant.known c.in-Some.ensures.characters
-                (sym c.contains.ensures ∙ c.if-contains.true) c.skip.ensures read.1
-                c.in-Some-after_line_end.ensures (not-true _ (sym tells ∙ w.if-gives_more.true)));
+                (sym c.contains.ensures ∙ c.if-contains.true) c.in_default-comment_end.ensures c.skip.ensures read.1
+                c.in-Some-after_line_end-2.ensures (not-true _ (sym tells ∙ w.if-gives_more.true)));
           }
       | else-gives_more w ↦
           rw w.tail-is record {
@@ -137,8 +155,8 @@ lines-preserved c =
                 (chars c.lines.tail.now) next) given_is
                 (line-empty c.args.read c.requires.starts c.requires.multiline
                 c.lines.invariant.known c.in-Some.ensures.characters
-                (sym c.contains.ensures ∙ c.if-contains.true) c.skip.ensures read.1
-                c.in-Some-after_line_end.ensures (not-false _ (sym tells ∙ w.if-gives_more.false)));
+                (sym c.contains.ensures ∙ c.if-contains.true) c.in_default-comment_end.ensures c.skip.ensures read.1
+                c.in-Some-after_line_end-2.ensures (not-false _ (sym tells ∙ w.if-gives_more.false)));
           }
     ]
 

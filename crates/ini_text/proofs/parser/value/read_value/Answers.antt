@@ -1,6 +1,6 @@
 use Rattle.ini_text.proofs.PlaceLemmas.TailLemmas.{at_rests, one_line}
 use Rattle.ini_text.proofs.ReaderLemmas.ReaderLemmas.{passed}
-use Rattle.ini_text.proofs.ReaderLemmas.ValueReaderLemmas.{value_stops}
+use Rattle.ini_text.proofs.ReaderLemmas.LineTurnLemmas.{value_stops}
 use Rattle.ini_text.proofs.parser.value.read_value.Goals as goal
 
 pub returns-in_err-value-clause-gives : goal.returns-in_err-value-clause-gives

@@ -5,8 +5,8 @@ use Rattle.ini.proofs.WritingLemmas.{chars-line_end}
 use Rattle.std.specs.List.{insert}
 use Rattle.ini_edit.specs.Inside.SourceEnds.{made_pair, with_new_end}
 use Rattle.ini_edit.specs.SourceEdits.{with_pairs}
-use Rattle.ini_edit.specs.SourceEditsAdd.{with_line_ended}
-use Rattle.ini_edit.specs.SourceEditsDelete.{gap_after, lines_after}
+use Rattle.ini_edit.specs.SourceEditsAdd.{end_after, with_line_ended}
+use Rattle.ini_edit.specs.SourceEditsDelete.{gap_after, line_end_after, lines_after}
 use Rattle.ini_edit.specs.SourcePlaces.{exchanged}
 use Rattle.ini_edit.proofs.InsertedPairLemmas.{put_after_place, put_after_stays, was_put}
 use Rattle.ini_edit.proofs.SourcePlaceLemmas.{place_read}
@@ -29,12 +29,16 @@ returns-clause-put c = λ p at.
     let put : items ≡ insert s.pairs (i + 1) new =
     was_put c.insert.result c.self.inside.pairs.items c.in_ok-map_err.ensures.variant
     c.insert.ensures.items ∙ ap (λ l. insert l (i + 1) new) pairs in
-    let lines : string_text c.in_ok-lines.lines ≡ end ++ lines_after o p.here =
-    c.in_ok-lines.ensures.text ∙ ap (λ t. end ++ t) (c.end-old.ensures.lines ∙ ap (lines_after o) old) in
-    let is_new : new ≡ make indented (end ++ lines_after o p.here) (gap_after o p.here) =
+    let new_end = end_after o end p.here in
+    let lines : string_text c.in_ok-lines.lines ≡ new_end ++ lines_after o p.here =
+    c.in_ok-lines.ensures.text
+    ∙ ap (λ e. e ++ chars c.end-old.result.lines.now)
+    (c.end_after.ensures p.here (c.end-old.ensures.line_end ∙ ap (line_end_after o) old))
+    ∙ ap (λ t. new_end ++ t) (c.end-old.ensures.lines ∙ ap (lines_after o) old) in
+    let is_new : new ≡ make indented (new_end ++ lines_after o p.here) (gap_after o p.here) =
     c.in_ok-pair.ensures.pair
     ∙ ap (λ l. make indented l (chars c.end-old.result.gap.now)) lines
-    ∙ ap (make indented (end ++ lines_after o p.here)) (c.end-old.ensures.gap ∙ ap (gap_after o) old) in
+    ∙ ap (make indented (new_end ++ lines_after o p.here)) (c.end-old.ensures.gap ∙ ap (gap_after o) old) in
     let old_end : c.index-2.result.now ≡ p.here =
     place_read at (c.index-2.ensures ∙ ap (λ l. get_or l i c.index-2.result.now) pairs) in
     let is_ended : ended ≡ with_line_ended o end p.here =

@@ -8,6 +8,7 @@ use Rattle.ini_text.specs.Grammar.Positions.{last_or}
 use Rattle.ini_text.specs.Options.WriteOptions.{line_end}
 use Rattle.ini_text.specs.Parsing.Fronts.{IsRest}
 use Rattle.ini_text.specs.Parsing.Items.{string_text}
+use Rattle.ini.proofs.WritingLemmas.{chars-line_end}
 use Rattle.ini_edit.specs.Inside.SourceEnds.{made_pair, trailing_of}
 use Rattle.ini_edit.specs.SourceEdits.{with_pairs}
 use Rattle.ini_edit.specs.SourceEditsAdd.{would_go_on}
@@ -55,7 +56,8 @@ returns-clause-put c = λ p at.
           ap (λ b. b && would_go_on o p.here) (sym c.is_empty.ensures ∙ w.if-is_empty.false)
     ] in
     let end_only : string_text c.in_ok-lines.lines ≡ end =
-    c.in_ok-lines.ensures.text ∙ ap (λ t. end ++ t) chars-nil ∙ append-nil end in
+    c.in_ok-lines.ensures.text ∙ ap (λ t. chars c.as_str.result.now ++ t) chars-nil ∙ append-nil _
+    ∙ ap chars c.as_str.ensures ∙ chars-line_end c.args.end in
     let is_new : new ≡ make (not o.enabled_indented_mutiline_value || (is_nil p.before || not (is_empty
     kept)))
     end comments =

@@ -1,18 +1,15 @@
-use Rattle.std.proofs.Common.{◌≡◌, ◌∙◌, List, [], ◌++◌, ap, chars, if◌then◌else◌, subst, sym, take}
-use Rattle.std.proofs.lemmas.Bool.{cond-false, cond-true}
+use Rattle.std.proofs.Common.{◌≡◌, ◌∙◌, List, [], ◌++◌, ap, chars, subst, sym, take}
 use Rattle.std.proofs.lemmas.Str.{chars-nil}
 use Rattle.std.specs.Option.{option_map}
 use Rattle.ini_text.specs.Grammar.Positions.{last_or}
 use Rattle.ini_text.specs.Parsing.Items.{cow_text, string_text}
 use Rattle.ini_edit.specs.Inside.SourceEnds.{IsPlaceAt, end_put}
-use Rattle.ini_edit.specs.SourceEditsDelete.{gap_after, pair_taken_out, rest_put}
+use Rattle.ini_edit.specs.SourceEditsDelete.{gap_after, left_after, pair_taken_out, rest_put}
 use Rattle.ini_edit.specs.SourcePlaces.{text_up_to}
 use Rattle.ini_edit.specs.Sources.{PairPiece, SectionPiece}
 use Rattle.ini_edit.proofs.DeletedStepLemmas.{out_of_section, stays_put}
 use Rattle.ini_edit.proofs.SourcePlaceLemmas.{place_read}
 use Rattle.ini_edit.proofs.source.section.SourceSection.take_out.Goals as goal
-use Rattle.ini_edit.proofs.source.section.SourceSection.take_out.Goals.{then-not-goes_with_line_end+in_ok-push_text}
-use Rattle.ini_edit.proofs.source.section.SourceSection.take_out.Goals.{else-not-goes_with_line_end}
 
 pub returns-clause-deleted : goal.returns-clause-deleted
 returns-clause-deleted c = λ p at.
@@ -29,25 +26,20 @@ returns-clause-deleted c = λ p at.
     let here = place_read there c.index.ensures in
     let is = c.end-end.ensures in
     let line_end = chars c.end-end.result.line_end.now in
-    let goes = c.goes_with_line_end.result in
     let start = string_text c.new-lines.result in
     let empty : start ≡ [] = ap chars c.new-lines.ensures.bytes ∙ chars-nil in
-    let first : string_text c.if-not-goes_with_line_end.lines ≡ (if goes then [] else line_end) =
-    elim c.if-not-goes_with_line_end.branch [
-      | then-not-goes_with_line_end+in_ok-push_text w ↦
-          ap string_text w.lines-is ∙ w.in_ok-push_text.ensures.pushed ∙ ap (λ t. t ++ line_end) empty
-          ∙ sym (cond-false goes [] line_end w.if-not-goes_with_line_end.true)
-      | else-not-goes_with_line_end w ↦
-          ap string_text w.lines-is ∙ empty ∙ sym (cond-true goes [] line_end
-          w.if-not-goes_with_line_end.false)
-    ] in
+    let first : string_text c.push_text.new.out
+    ≡ left_after o.enabled_indented_mutiline_value c.last_before.result line_end
+    (chars c.end-end.result.lines.now) (chars c.end-end.result.gap.now) =
+    c.in_ok-push_text.ensures.pushed ∙ ap (λ t. t ++ chars c.line_end_left-left.result.now) empty
+    ∙ c.line_end_left-left.ensures in
     let lines = ap chars c.as_str.ensures.value
     ∙ stays_put o s front i c.index.result.now p there here
     c.last_before.result
     (c.last_before.ensures ∙ ap (λ s. last_or front (text_up_to s (take i s.pairs))) (sym c.self.view_is))
     line_end (chars c.end-end.result.lines.now)
-    (chars c.end-end.result.gap.now) is.line_end is.lines is.gap goes c.goes_with_line_end.ensures
-    (string_text c.if-not-goes_with_line_end.lines) (string_text c.push_text-2.new.out) first
+    (chars c.end-end.result.gap.now) is.line_end is.lines is.gap
+    (string_text c.push_text.new.out) (string_text c.push_text-2.new.out) first
     c.in_ok-push_text-2.ensures.pushed in
     let rest = c.in_ok-rest.rest in
     let text = chars c.as_str.result.now in

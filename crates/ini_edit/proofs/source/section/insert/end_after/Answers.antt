@@ -1,0 +1,29 @@
+use Rattle.std.proofs.Common.{◌≡◌, ◌∙◌, ◌==◌, ◌&&◌, false, ap, chars, eq-eqb, ne_eqb, sym}
+use Rattle.std.proofs.lemmas.Bool.{and_from, and_left, and_right, cond-false, cond-true}
+use Rattle.ini_text.specs.Grammar.CharacterKinds.{carriage_return, line_feed}
+use Rattle.ini_text.specs.Grammar.Positions.{last_or}
+use Rattle.ini.proofs.WritingLemmas.{chars-line_end}
+use Rattle.ini_edit.proofs.CharsLemmas.{chars-return}
+use Rattle.ini_edit.specs.SourceEditsDelete.{line_end_after}
+use Rattle.ini_edit.proofs.source.section.insert.end_after.Goals.{else-read-via-else-read}
+use Rattle.ini_edit.proofs.source.section.insert.end_after.Goals.{else-read-via-then-read+else-last_or-eq13}
+use Rattle.ini_edit.proofs.source.section.insert.end_after.Goals as goal
+
+pub returns-then-last_or-eq13 : goal.returns-then-last_or-eq13
+returns-then-last_or-eq13 c = λ p is.
+    chars-return ∙ sym (cond-true _ _ _ (and_from c.args.read.enabled_indented_comment _ c.if-read.true
+    (eq-eqb (last_or line_feed (line_end_after c.args.read p)) carriage_return
+    (ap (last_or line_feed) (sym is) ∙ sym c.last_or.ensures ∙ c.if-last_or-eq13.true))))
+
+pub returns : goal.returns
+returns c = λ p is.
+    let last = last_or line_feed (line_end_after c.args.read p) in
+    let off : (c.args.read.enabled_indented_comment && last == carriage_return) ≡ false =
+    elim c.else-read.branch [
+      | else-read-via-then-read+else-last_or-eq13 w ↦
+          and_right c.args.read.enabled_indented_comment (last == carriage_return)
+          (ne_eqb last carriage_return
+          (λ e. w.if-last_or-eq13.false (w.last_or.ensures ∙ ap (last_or line_feed) is ∙ e)))
+      | else-read-via-else-read w ↦ and_left _ _ w.if-read.false
+    ] in
+    ap chars c.as_str.ensures ∙ chars-line_end c.args.end ∙ sym (cond-false _ _ _ off)
