@@ -95,8 +95,8 @@ enum bigrosk_ini_kind {
     BIGROSK_INI_END_OF_TEXT = 1,       /* within a name, a key, quotes or an escape */
     BIGROSK_INI_BROKEN_ESCAPE = 2,     /* among the four units of \x stands a backslash, and no LF after it */
     BIGROSK_INI_UNKNOWN_CHARACTER = 3, /* the four units of \x spell no character */
-    BIGROSK_INI_INLINE_COMMENT = 4,    /* ; or # where an item may begin, but not in column one */
-    BIGROSK_INI_MISSING_KEY = 5,       /* a separator follows an empty key */
+    BIGROSK_INI_INLINE_COMMENT = 4,    /* ; or # where an item may begin, but no comment */
+    BIGROSK_INI_MISSING_KEY = 5,       /* a separator follows an empty key, or where lone lines are keys a line end */
     BIGROSK_INI_CR_ALONE = 6,          /* in a multiline value, CR without LF in the place of an empty line */
     BIGROSK_INI_HEADER_END = 7,        /* with brackets in names, a header's line does not end in ] */
     BIGROSK_INI_NO_SEPARATOR = 8       /* where lone lines are refused, no separator follows the key in its line */
@@ -135,8 +135,9 @@ struct bigrosk_ini_read_option {
 
 /* What becomes of a line in which no separator follows the key. */
 enum bigrosk_ini_lone_lines {
-    BIGROSK_INI_LONE_LINES_RUN_ON = 0, /* the key runs on over the line end, up to a separator */
-    BIGROSK_INI_LONE_LINES_REFUSED = 1 /* the text is refused: NO_SEPARATOR */
+    BIGROSK_INI_LONE_LINES_RUN_ON = 0,  /* the key runs on over the line end, up to a separator */
+    BIGROSK_INI_LONE_LINES_REFUSED = 1, /* the text is refused: NO_SEPARATOR */
+    BIGROSK_INI_LONE_LINES_KEYS = 2     /* the key has the empty value */
 };
 
 /* The same with the options that came later. It begins as BIGROSK_INI_READING_DEFAULT; the calls whose names end in _by take it. */
@@ -150,9 +151,10 @@ struct bigrosk_ini_reading {
     bool raw_backslash;    /* where escapes are off, a backslash is a character like any other, before a line feed too */
     uint8_t lone_lines;    /* enum bigrosk_ini_lone_lines; any other number is refused */
     uint8_t indented_comments; /* with 1, blanks and ; or # begin a comment where a line starts; 0 without; no other number */
+    uint8_t inline_comments;   /* with 1, a blank and ; or # begin a comment in a value, and after a name; 0, no other number */
 };
 #define BIGROSK_INI_READING_DEFAULT \
-    { sizeof(struct bigrosk_ini_reading), true, true, false, false, false, false, BIGROSK_INI_LONE_LINES_RUN_ON, 0 }
+    { sizeof(struct bigrosk_ini_reading), true, true, false, false, false, false, BIGROSK_INI_LONE_LINES_RUN_ON, 0, 0 }
 
 /* Which characters of names, keys and values are escaped. */
 enum bigrosk_ini_policy {
@@ -316,8 +318,8 @@ uint32_t bigrosk_ini_dialect_by(const uint8_t *name, size_t name_count, struct b
 /* Sets the key's value: in the place of that of its first pair, and the key's later pairs in that section go; where the section
  * lacks the key, in a new line directly after its last pair, which looks like that; and where no section has the name (the general
  * one is always there), in a new one at the text's end, after an empty line. The value is written in the first form that is read
- * back: in the quotes of the old one, bare, in double quotes, in single ones. Every other byte stays. The new text loads as the document in
- * which the key is set.
+ * back: in the quotes of the old one where it hasn't their mark, bare, in double quotes, in single ones. Every other byte stays.
+ * The new text loads as the document in which the key is set.
  * OK; UNPLAIN_VALUE, before the text is read; where the key is not there UNPLAIN_KEY, UNPLAIN_NAME where no section has the name, and
  * NO_PLACE, with multiline values alone, before an indented key that the text's end cuts short; and those above. */
 uint32_t bigrosk_ini_edit_set(const uint8_t *text, size_t text_count, const struct bigrosk_ini_read_option *read,
@@ -421,7 +423,7 @@ uint32_t bigrosk_ini_text_place(struct bigrosk_ini_text *text, bool named, const
 /* Sets the key's value: in the place of that of its first pair, and the key's later pairs in that section go; where the section
  * lacks the key, in a new line directly after its last pair, which looks like that; and where no section has the name, in a new
  * one at the text's end, after an empty line. The value is written in the first form that is read back: in the quotes of the old
- * one, bare, in double quotes, in single ones. A value that is there already stays as it is written.
+ * one where it hasn't their mark, bare, in double quotes, in single ones. A value that is there already stays as it is written.
  * OK; UNPLAIN_VALUE, UNPLAIN_KEY, UNPLAIN_NAME and NO_PLACE as bigrosk_ini_edit_set has them; NOT_UTF8; NO_MEMORY; NO_DOCUMENT. */
 uint32_t bigrosk_ini_text_set(struct bigrosk_ini_text *text, const struct bigrosk_ini_write_option *write, bool named,
                               const uint8_t *section, size_t section_count, const uint8_t *key, size_t key_count,

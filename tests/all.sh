@@ -32,6 +32,17 @@ run() {
     echo "$*: $passed_here passed, $failed_here failed, in $(($(date +%s) - began)) s"
 }
 
+# By its own guess of memory `rt ci` would prove the two largest crates alone, one after the other; they take a third of that. So it
+# is given how many checks go side by side: one a processor, and 5 GB of memory for each.
+if [ -z "${RT_JOBS:-}" ]; then
+    RT_JOBS=$({
+        awk '/^MemAvailable:/ { print int($2 / 5000000) }' /proc/meminfo
+        cat /sys/fs/cgroup/memory.max /sys/fs/cgroup/memory/memory.limit_in_bytes | awk '/^[0-9]+$/ { print int($1 / 5000000000) }'
+        nproc
+    } 2>/dev/null | sort -n | head -n 1)
+    [ "${RT_JOBS:-0}" -ge 1 ] || RT_JOBS=1
+    export RT_JOBS
+fi
 run rt ci
 # what it proved, the library for C goes over
 if [ "$failed" -eq 0 ]; then

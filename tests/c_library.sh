@@ -104,6 +104,11 @@ cp "$top/examples/settings.ini" "$room/settings.ini"
 run 'the program of docs/C.md' "$room/page" "$room/settings.ini"
 sed -e 's/8080/9090/' -e 's/30/45/' -e '$a tmp = /tmp' "$top/examples/settings.ini" >"$room/wanted.ini"
 run 'what it saved' diff "$room/settings.ini" "$room/wanted.ini"
+# and that of the manual
+sed -n '/^\.EX$/,/^\.EE$/p' "$top/share/man/bigrosk_ini.3" | sed '/^\.E/d; s/\\e/\\/g' >"$room/manual.c"
+run 'compile the program of the manual' gcc $warnings $include -o "$room/manual" "$room/manual.c" "$room/it/lib/libbigrosk_ini.a"
+is 'what the program of the manual writes and saves' '9090
+log   = /srv/log' "$(cd "$room" && ./manual && grep log settings.ini)"
 
 if has g++ 'the unit of C++'; then
     run 'compile in C++' g++ $warnings -std=c++11 $include -o "$room/unit" "$clients/unit.cpp" "$room/it/lib/libbigrosk_ini.a"

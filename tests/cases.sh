@@ -1,5 +1,5 @@
 # What the scripts of this folder share; each reads it first. It makes a folder for the run ($room), keeps the counts, and has
-# the words by which cases are told. A script ends with `finish`.
+# the words by which cases are reported. A script ends with `finish`.
 # shellcheck shell=sh
 set -u
 LC_ALL=C

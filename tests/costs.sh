@@ -59,6 +59,8 @@ quoted() { awk -v n="$1" 'BEGIN { printf "k = \""; for (i = 0; i < n; i++) print
 comments() { awk -v n="$1" 'BEGIN { for (i = 0; i < n; i++) printf "; %d\n", i % 10; print "k = v" }'; }
 refused() { pairs "$1"; echo '= v'; }
 escapes() { awk -v n="$1" 'BEGIN { printf "k = "; for (i = 0; i < n; i++) printf "a\\tb\\x0041"; print "" }'; }
+notes() { awk -v n="$1" 'BEGIN { for (i = 0; i < n; i++) printf "key%d = value ; note %d\n", i, i }'; }
+marks() { awk -v n="$1" 'BEGIN { printf "k = "; for (i = 0; i < n; i++) printf "a;b\\;"; print "" }'; }
 
 doubles 'pairs of one section' 0 pairs 20000 fmt
 doubles 'sections' 0 sections 10000 fmt
@@ -66,6 +68,8 @@ doubles 'sections of one name' 0 repeated 10000 fmt
 doubles 'a quoted value over many lines' 0 quoted 150000 fmt
 doubles 'comments' 0 comments 150000 fmt
 doubles 'a value full of escapes' 0 escapes 50000 fmt
+doubles 'notes after values' 0 notes 20000 --inline-comments fmt
+doubles 'a value full of comment marks' 0 marks 100000 --inline-comments fmt
 doubles 'pairs of one section, one set' 0 pairs 20000 set key7 v
 doubles 'pairs of one section, listed' 0 pairs 20000 list
 doubles 'a text that is refused at its end' 3 refused 20000 fmt

@@ -214,7 +214,7 @@ first section of the name"
         '; a server\nname = one\n[server]\nport = 8080\n; host = a\\tb\nport = 9090\n[client]\n[server]\nlast = 1\n' \
         --like php comment settings.ini host server
     printf '[a] k = v\n' >settings.ini
-    refused 'comment of a pair behind a header' 3 "$no_comment" comment settings.ini k a
+    refused 'comment of a pair after a header' 3 "$no_comment" comment settings.ini k a
     case_of 'comment in standard input' 0 'j=1\n; k=2\n' '' comment - k <<END
 j=1
 k=2
@@ -434,6 +434,61 @@ j'
 note: the text ends at 2:6" --lone-lines refused set settings.ini k 3
 }
 
+# lines in which no separator follows the key, where they are keys alone
+lone_keys() {
+    fresh
+    alone='[mysqld]\n# net\nskip-networking\nport = 1\n\n[a]\nj\n'
+    printf "$alone" >settings.ini
+    case_of 'get of a key alone' 0 '\n' '' --lone-lines keys get settings.ini skip-networking mysqld
+    case_of 'the same where it runs on' 3 '' 'settings.ini:7:1: this key has no = or : after it
+j
+^
+note: the text ends at 8:1' get settings.ini skip-networking mysqld
+    case_of 'list of keys alone' 0 '[mysqld]\tskip-networking\t\n[mysqld]\tport\t1\n[a]\tj\t\n' '' --lone-lines keys list settings.ini
+    case_of 'list --origin of keys alone' 0 \
+        'settings.ini:3:[mysqld]\tskip-networking\t\nsettings.ini:4:[mysqld]\tport\t1\nsettings.ini:7:[a]\tj\t\n' \
+        '' --lone-lines keys list --origin settings.ini
+    case_of 'rewrite of keys alone' 0 '[mysqld]\nskip-networking=\nport=1\n\n[a]\nj=\n' '' \
+        --lone-lines keys rewrite settings.ini --output -
+    edit 'set of a key alone to the empty value: it stays' "$alone" --lone-lines keys set settings.ini skip-networking '' mysqld
+    edit 'set of a key alone' '[mysqld]\n# net\nskip-networking=1\nport = 1\n\n[a]\nj\n' \
+        --lone-lines keys set settings.ini skip-networking 1 mysqld
+    edit 'set of the last one, in quotes' '[mysqld]\n# net\nskip-networking=1\nport = 1\n\n[a]\nj=" v"\n' \
+        --lone-lines keys set settings.ini j ' v' a
+    printf "$alone" >settings.ini
+    edit 'a new pair after a key alone' "${alone}n = 2\n" --lone-lines keys add settings.ini n 2 a
+    printf "$alone" >settings.ini
+    edit 'rename-key of a key alone' '[mysqld]\n# net\nskip-x\nport = 1\n\n[a]\nj\n' \
+        --lone-lines keys rename-key settings.ini skip-networking skip-x mysqld
+    edit 'comment of a key alone' '[mysqld]\n# net\n; skip-x\nport = 1\n\n[a]\nj\n' \
+        --lone-lines keys comment settings.ini skip-x mysqld
+    edit 'delete of a key alone' '[mysqld]\n# net\n; skip-x\nport = 1\n\n[a]\n' --lone-lines keys delete settings.ini j a
+    printf 'k = 1\n  abc' >settings.ini
+    edit 'set of a key alone at the end' 'k = 1\n  abc=2' --lone-lines keys set settings.ini abc 2
+    printf 'a\\' >settings.ini
+    edit 'set of a key alone with a lone backslash' 'a\\\\=v' --lone-lines keys set settings.ini 'a\' v
+    printf 'j\n' >settings.ini
+    printf 'j = 1\nskip-x\n' >../lone.ini
+    edit 'merge of keys alone' 'j=1\nskip-x=\n' --lone-lines keys merge settings.ini ../lone.ini
+    printf 'skip-x\nj = 1\n' >settings.ini
+    case_of 'diff of keys alone' 0 '' '' --lone-lines keys diff settings.ini ../lone.ini
+    printf 'j=1\nk\n  w\n' >settings.ini
+    case_of 'a key alone has no further lines' 0 '\tj\t1\n\tk\t\n\tw\t\n' '' --multiline --lone-lines keys list settings.ini
+    edit 'rename-key of an indented key alone' 'j=1\nk\n  x\n' --multiline --lone-lines keys rename-key settings.ini w x
+    edit 'delete before a line that the value above would take' 'j=1\n;\n  x\n' --multiline --lone-lines keys delete settings.ini k
+    edit 'a new pair after an indented key alone' 'j=1\n;\n  x\nn=2\n' --multiline --lone-lines keys set settings.ini n 2
+    printf 'j=1\nk\n  w\n' >settings.ini
+    edit 'comment before such a line' 'j=1\n; k\n  w\n' --multiline --lone-lines keys comment settings.ini k
+    printf 'k\n  w\n' >settings.ini
+    edit 'set before a line that the value would take' 'k=v\n;\n  w\n' --multiline --lone-lines keys set settings.ini k v
+    printf 'k\n\n  w\n' >settings.ini
+    edit 'delete with no value above' '\n  w\n' --multiline --lone-lines keys delete settings.ini k
+    printf 'k\n[a]\n' >settings.ini
+    edit 'a new pair before a line that it would not take' 'k\nn=1\n[a]\n' --multiline --lone-lines keys add settings.ini n 1
+    printf 'k\n\n[a]\n' >settings.ini
+    edit 'a new pair before a line that it would take' 'k\nn=1\n;\n\n[a]\n' --multiline --lone-lines keys add settings.ini n 1
+}
+
 # comments after blanks, and where they begin keys
 indented_comments() {
     fresh
@@ -457,6 +512,38 @@ indented_comments() {
     refused 'set over a comment after a header' 3 "settings.ini:1:5: a comment begins only at the front of a line
 [a] ; c
     ^" --indented-comments set settings.ini k 3 a
+}
+
+# comments after values and names, and where they are the values' own
+inline_comments() {
+    fresh
+    printf 'k = 1 ; one\n[a] # two\nx = 1\t; three\n' >settings.ini
+    case_of 'a value without its comment' 0 '1\n' '' --inline-comments get settings.ini k
+    case_of 'pairs and no comments after them' 0 '\tk\t1\n[a]\tx\t1\n' '' --inline-comments list settings.ini
+    case_of 'the same as supervisor reads them' 0 '\tk\t1\n[a]\tx\t1\n' '' --like supervisor list settings.ini
+    case_of 'a comment after a value is no trap' 0 '' '' --inline-comments check settings.ini
+    edit 'set before a comment' 'k = 3 ; one\n[a] # two\nx = 1\t; three\n' --inline-comments set settings.ini k 3
+    edit 'set to nothing before a comment: quotes stand there' 'k = "" ; one\n[a] # two\nx = 1\t; three\n' \
+        --inline-comments set settings.ini k ''
+    edit 'a value with a mark is quoted' 'k = "" ; one\n[a] # two\nx = "2 # 3"\t; three\n' \
+        --inline-comments set settings.ini x '2 # 3' a
+    edit 'a new pair goes below the line of a comment' 'k = "" ; one\nnew = 4\n[a] # two\nx = "2 # 3"\t; three\n' \
+        --inline-comments set settings.ini new 4
+    edit 'delete: its comment goes with it' 'new = 4\n[a] # two\nx = "2 # 3"\t; three\n' \
+        --inline-comments delete settings.ini k
+    edit 'rename-section before a comment' 'new = 4\n[b] # two\nx = "2 # 3"\t; three\n' \
+        --inline-comments rename-section settings.ini a b
+    edit 'rename-key before a comment' 'new = 4\n[b] # two\ny = "2 # 3"\t; three\n' \
+        --inline-comments rename-key settings.ini x y b
+    printf 'k = v ; n\n' >settings.ini
+    case_of 'a value that the mark is part of' 0 'v ; n\n' '' get settings.ini k
+    edit 'set without quotes to nothing: the comment goes too' 'k =  \n' --noquote --inline-comments set settings.ini k ''
+    printf 'j\nk ; n\n' >settings.ini
+    edit 'set of a key alone before a comment' 'j\nk =1 ; n\n' --inline-comments --lone-lines keys set settings.ini k 1
+    printf 'j\nk ; n\n' >settings.ini
+    edit 'delete of a key alone before a comment' 'j\n' --inline-comments --lone-lines keys delete settings.ini k
+    printf '[a]\t; n\nk = v\n' >settings.ini
+    edit 'rename-section with brackets in names' '[b]\t; n\nk = v\n' --brackets --inline-comments rename-section settings.ini a b
 }
 
 # a key that begins with a byte order mark, at the front of a file that has none, and of one that has one
@@ -1316,7 +1403,7 @@ encodings() {
     rm -f x.desktop ../other.ini ../marked.ini
 }
 
-# the same by the other commands: what is told, and layers, are in UTF-8, as are edits without a mark
+# the same by the other commands: what is reported, and layers, are in UTF-8, as are edits without a mark
 further_encodings() {
     fresh
     printf '\377\376p\000=\000C\000:\000\134\000t\000\351\000\n\000' >settings.ini
@@ -1361,7 +1448,9 @@ making
 renaming
 paths
 lone_lines
+lone_keys
 indented_comments
+inline_comments
 marks
 encodings
 further_encodings

@@ -34,7 +34,7 @@ offered() {
 mkdir "$room/files"
 : >"$room/files/one.ini"
 : >"$room/files/one two"
-options='--brackets --crlf --indent --indented-comments --lone-lines --multiline --noescape --noquote --policy --raw-backslash '
+options='--brackets --crlf --indent --indented-comments --inline-comments --lone-lines --multiline --noescape --noquote --policy --raw-backslash '
 if has bash completions; then
     offered 'del fmt get list set ' ini_tool ''
     offered 'get ' ini_tool g
@@ -42,9 +42,10 @@ if has bash completions; then
     offered "$options" ini_tool -
     offered '--noescape --noquote ' ini_tool --crlf --no
     offered '--indented-comments ' ini_tool --crlf --indented
+    offered '--inline-comments ' ini_tool --crlf --inl
     offered 'Nothing ' ini_tool --policy N
     offered 'refused ' ini_tool --lone-lines re
-    offered 'refused runs-on ' ini_file --crlf --lone-lines ''
+    offered 'keys refused runs-on ' ini_file --crlf --lone-lines ''
     offered 'Reserved ReservedUnicode ReservedUnicodeExtended ' ini_file --policy Res
     offered ' ' ini_tool get ''
     offered 'one two one.ini ' ini_file layers ''
@@ -134,8 +135,8 @@ ini_file merge x.ini |x.ini
 ini_file get x.ini --output |x.ini
 ini_file set x.ini --wait |
 ini_file check --policy |Basics|BasicsUnicode|BasicsUnicodeExtended|Everything|Nothing|Reserved|ReservedUnicode|ReservedUnicodeExtended
-ini_file get --lone-lines |refused|runs-on
-ini_tool --lone-lines |refused|runs-on
+ini_file get --lone-lines |keys|refused|runs-on
+ini_tool --lone-lines |keys|refused|runs-on
 ini_tool --lone-lines refused |del|fmt|get|list|set
 ini_tool |del|fmt|get|list|set
 ini_tool get |

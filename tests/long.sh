@@ -32,7 +32,7 @@ own=$bound
 checking=$((own + 16000))
 editing=$((own + 58000))
 reading=$((own + 32000))
-most=$((own + 400000))
+most=$((own + 450000))
 
 # counts a case, which is passed where its status and the two files are the same
 count() {
@@ -305,11 +305,11 @@ count "$label, refused at its end: it stands" 0 0 many.refused it.ini
 label='many sections'
 pipes many.list many list -
 pipes many.get many get - 'key 7' "section $last"
+bound=$editing
 pipes "many.$mid.set" many set - 'key 3' other "section $mid"
 pipes "many.$last.new" many add - new v "section $last"
 pipes "many.$mid.delete" many delete - 'key 3' "section $mid"
 pipes many.format many rewrite -
-bound=$editing
 pipes many.merge many merge - other.ini
 bound=$reading
 pipes empty many check -

@@ -29,9 +29,11 @@ while ! bounded "$own" fmt </dev/null >/dev/null 2>&1; do
 done
 bound=$((own + 20000))
 
-# short NAME STATUS OUTPUT ERROR: runs fmt over standard input within the bound; output and error are those of printf's %b
+# short NAME STATUS OUTPUT ERROR: runs fmt over standard input within the bound, by the options; output and error are those of
+# printf's %b
+options=
 short() {
-    bounded "$bound" fmt >"$room/out" 2>"$room/err"
+    bounded "$bound" $options fmt >"$room/out" 2>"$room/err"
     {
         echo "status $?"
         cat "$room/out"
@@ -104,6 +106,16 @@ done | short 'comments of a megabyte' 0 '' ''
     lines 4000000 '; no'
     printf 'k=\303'
 } | short 'bytes that are no text' 3 '' 'ini_tool: the input is not UTF-8'
+
+# comments that options allow, indented and after other white space
+options='--indented-comments --inline-comments'
+yes '  ; a comment that says nothing' | head -c 200000000 | short 'indented comments' 0 '' ''
+yes "$(printf '\v# a note that says nothing')" | head -c 200000000 | short 'notes after white space' 0 '' ''
+{
+    printf 'k=v ; no\n[a] ; no\n'
+    lines 4000000 '  ; no'
+    printf 'x = y # no\n\r; no\n=v\n'
+} | short 'a missing key after notes' 3 '' 'ini_tool: 4000005:2 missing key'
 
 passed=$(grep -c passed "$room/cases")
 failed=$(grep -c failed "$room/cases")

@@ -1,7 +1,7 @@
 #!/bin/sh
 # Runs the built programs over real streams and files. The cases are the rows of a table, the streams, the large inputs, the
-# runs of `ini_file layers` and its warnings, and the commands that README.md and docs/PROGRAM.md show. Each case that fails is
-# told. The last line is 'N passed, M failed', and the status is 1 if a case failed.
+# runs of `ini_file layers` and its warnings, and the commands that README.md, docs/PROGRAM.md and the manual show. Each case
+# that fails is reported. The last line is 'N passed, M failed', and the status is 1 if a case failed.
 #
 #     tests/program.sh [INI_TOOL [INI_FILE]]
 #
@@ -12,7 +12,7 @@ file=$(program_of ini_file "${2:-}") || exit 1
 mkdir "$room/bin"
 ln -s "$program" "$room/bin/ini_tool"
 ln -s "$file" "$room/bin/ini_file"
-options='[--noescape] [--noquote] [--multiline] [--indent] [--brackets] [--raw-backslash] [--indented-comments] [--lone-lines NAME] [--crlf] [--policy NAME]'
+options='[--noescape] [--noquote] [--multiline] [--indent] [--brackets] [--raw-backslash] [--indented-comments] [--inline-comments] [--lone-lines NAME] [--crlf] [--policy NAME]'
 usage="usage: ini_tool $options fmt|list|get KEY [SECTION]|set KEY VALUE [SECTION]|del KEY [SECTION]"
 
 # told NAME STATUS WANTED ERROR: the last run's status, and what it wrote on standard error
@@ -22,7 +22,7 @@ told() {
     count "$1"
 }
 
-# wrote NAME STATUS WANTED OUTPUT: the last run's status, that it told nothing, and that it wrote just this file
+# wrote NAME STATUS WANTED OUTPUT: the last run's status, that it reported nothing, and that it wrote just this file
 wrote() {
     { echo "status $3"; sum <"$4"; head -c 400 "$4"; } >"$room/want"
     { echo "status $2"; cat "$room/err"; sum <"$room/out"; head -c 400 "$room/out"; } >"$room/have"
@@ -33,7 +33,7 @@ sum() {
     cksum | cut -d ' ' -f 1,2
 }
 
-# gives NAME STATUS OUTPUT INPUT COMMAND..: over the file INPUT the command ends with that status within a minute, tells
+# gives NAME STATUS OUTPUT INPUT COMMAND..: over the file INPUT the command ends with that status within a minute, reports
 # nothing, and writes just the file OUTPUT
 gives() {
     called=$1
@@ -104,9 +104,48 @@ list|  ; c\nk=v\n|0|\t; c\\nk\tv\n|
 list|k=v\r  # c\rj=w\n|0|\tk\tv\n\t# c\\rj\tw\n|
 --multiline list|k=a\n ; c\n b\n|0|\tk\ta\\n; c\\nb\n|
 set --indented-comments x||0|--indented-comments=x\n|
+--inline-comments list|k = v ; note\n|0|\tk\tv\n|
+--inline-comments list|k=a;b #c\nj\t=\ta\t;|0|\tk\ta;b\n\tj\ta\n|
+--inline-comments list|k = ; note\nj =; note\n|0|\tk\t; note\n\tj\t; note\n|
+--inline-comments list|k=a \\; b\nj=a\\ ; b\n|0|\tk\ta ; b\n\tj\ta ; b\n|
+--inline-comments --noescape list|k=a\\ ; b\n|0|\tk\ta\\\\ ; b\n|
+--inline-comments --noescape --raw-backslash list|k=a\\ ; b\n|0|\tk\ta\\\\\n|
+--inline-comments list|k="a ; b" ; c\nj="a"; b\n|0|\tk\ta ; b\n\tj\ta; b\n|
+--noquote --inline-comments list|k="a ; b"\n|0|\tk\t"a\n|
+--inline-comments fmt|[a] ; note\nk=v\n[b];\nj=w # n\r; c\ri=u|0|[a]\nk=v\n\n[b]\nj=w\ni=u\n|
+--inline-comments --brackets list|[a]\t# n\nk=v|0|[a]\tk\tv\n|
+--inline-comments --lone-lines keys list|skip-x # n\n  j ;\n|0|\tskip-x\t\n\tj\t\n|
+--inline-comments list|a ;b=c\n|0|\ta ;b\tc\n|
+--multiline --inline-comments get k|k=a ; n\n b ; m\n|0|a\nb\n|
+--multiline --inline-comments --indented-comments list|k=\n ; c\n\n b ; d\n|0|\tk\tb\n|
+--inline-comments set k w|k=v ; n\n|0|k=w\n|
+list|k = v ; note\n|0|\tk\tv ; note\n|
+set --inline-comments x||0|--inline-comments=x\n|
 --lone-lines refused fmt|; c\nk=v\n\n[a]\n  x : y\n|0|k=v\n\n[a]\nx=y\n|
 --lone-lines refused list|a\\\nb=c\n|0|\tab\tc\n|
 --lone-lines refused list|  \n  |0||
+--lone-lines keys list|  ; c\nk=v\n|0|\t; c\t\n\tk\tv\n|
+--indented-comments --lone-lines keys list|  ; c\nk=v\n|0|\tk\tv\n|
+--lone-lines keys list|abc\nk=v\n|0|\tabc\t\n\tk\tv\n|
+--lone-lines keys list|a\rb\r\nk=v|0|\ta\t\n\tb\t\n\tk\tv\n|
+--lone-lines keys get abc|abc|0|\n|
+--lone-lines keys fmt|k = v\n  abc|0|k=v\nabc=\n|
+--lone-lines keys list|  \n  |0||
+--lone-lines keys list|a\\=b\n|0|\ta=b\t\n|
+--lone-lines keys list|skip-x # n\n|0|\tskip-x # n\t\n|
+--lone-lines keys list|!include /x\n.include /a=b\n|0|\t!include /x\t\n\t.include /a\tb\n|
+--multiline --lone-lines keys list|k\n  w\n|0|\tk\t\n\tw\t\n|
+--multiline --lone-lines keys get k|k=v\nj\n\n  w=x\n|0|v\n|
+--lone-lines keys list|a\\|0|\ta\\\\\t\n|
+--noescape --lone-lines keys list|a\\\nb\\=c\\|0|\tab\\\\=c\\\\\t\n|
+--noescape --raw-backslash --lone-lines keys list|a\\\nb\\=c|0|\ta\\\\\t\n\tb\\\\\tc\n|
+--indent --lone-lines keys fmt|  k \n|0|  k=\n|
+--lone-lines keys list|[a] b\n|0|[a]\tb\t\n|
+--lone-lines keys set abc 1|abc\nk=v\n|0|abc=1\nk=v\n|
+--lone-lines keys set k w|abc\nk=v|0|abc=\nk=w\n|
+--lone-lines keys del abc|abc\nk=v\nabc|0|k=v\nabc=\n|
+--lone-lines refused --lone-lines keys --crlf fmt|abc|0|abc=\r\n|
+--lone-lines keys --lone-lines runs-on fmt|k=v\n  abc|0|k=v\n|
 --lone-lines runs-on list|abc\nk=v\n|0|\tabc\\nk\tv\n|
 --lone-lines refused --lone-lines runs-on list|abc\nk=v\n|0|\tabc\\nk\tv\n|
 --lone-lines runs-on fmt|k=v\n  abc|0|k=v\n|
@@ -244,10 +283,15 @@ del k s x|k=v\n|2||USAGE
 --indented-comments|k=v\n|2||USAGE
 --indented-comment fmt|k=v\n|2||USAGE
 --indented-comments= fmt|k=v\n|2||USAGE
+--inline-comments|k=v\n|2||USAGE
+--inline-comment fmt|k=v\n|2||USAGE
+--inline-comments= fmt|k=v\n|2||USAGE
 --lone-lines|k=v\n|2||USAGE
 --lone-lines fmt|k=v\n|2||USAGE
 --lone-lines refuse fmt|k=v\n|2||USAGE
 --lone-lines Refused fmt|k=v\n|2||USAGE
+--lone-lines key fmt|k=v\n|2||USAGE
+--lone-lines Keys fmt|k=v\n|2||USAGE
 --lone-lines '' fmt|k=v\n|2||USAGE
 --lone-lines --policy Basics fmt|k=v\n|2||USAGE
 --lone-lines=refused fmt|k=v\n|2||USAGE
@@ -275,6 +319,8 @@ del k s ''|k=v|2||USAGE
 # refused texts
 --brackets fmt|[a]x\n|3||ini_tool: 2:1 section must be ended with ']'
 --indented-comments get k|k=1\n[a] ; c|3||ini_tool: 2:6 doesn't support inline comment
+--inline-comments --brackets get k|k=1\n[a ;b]\n|3||ini_tool: 2:5 section must be ended with ']'
+--inline-comments --lone-lines refused fmt|k=1 ; c\nab ; c\n|3||ini_tool: 2:5 no separator follows the key in its line
 fmt|k=v\r# c\rj=w\n|3||ini_tool: 1:6 doesn't support inline comment
 --indented-comments --lone-lines refused fmt|  ; c\nabc\nk=v\n|3||ini_tool: 3:1 no separator follows the key in its line
 --lone-lines refused fmt|abc\nk=v\n|3||ini_tool: 2:1 no separator follows the key in its line
@@ -284,6 +330,11 @@ fmt|k=v\r# c\rj=w\n|3||ini_tool: 1:6 doesn't support inline comment
 --lone-lines runs-on --lone-lines refused del k|k\n=v\n|3||ini_tool: 2:1 no separator follows the key in its line
 --lone-lines refused list|k=v\n  abc|3||ini_tool: 2:6 expecting "[Some('='), Some(':')]" but found EOF.
 --lone-lines refused list| =v\n|3||ini_tool: 1:3 missing key
+--lone-lines keys list| =v\n|3||ini_tool: 1:3 missing key
+--lone-lines keys list|\\\n\n|3||ini_tool: 3:1 missing key
+--lone-lines keys list|\\\n|3||ini_tool: 2:1 expecting "[Some('='), Some(':')]" but found EOF.
+--lone-lines keys list|a\\x00|3||ini_tool: 1:6 expecting "[Some('='), Some(':')]" but found EOF.
+--lone-lines keys --lone-lines refused get k|abc\nk=v|3||ini_tool: 2:1 no separator follows the key in its line
 fmt|k|3||ini_tool: 1:2 expecting "[Some('='), Some(':')]" but found EOF.
 list|[a]\n=v|3||ini_tool: 2:2 missing key
 get k|k=1\n[a] ; c|3||ini_tool: 2:6 doesn't support inline comment
@@ -445,8 +496,9 @@ is_cut 'an output that is full before the end' $? "$out_fault$large" "$room/some
 . "$top/tests/program/sides.sh"
 . "$top/tests/program/apply.sh"
 
-# The commands that a page shows: in its blocks marked `console`, each line that begins with '$ ' is a command, and what
-# follows it, up to the next one, is what the shell then shows. A page's commands run in turn, in a folder with the examples.
+# The commands that a page shows: in its blocks marked `console`, or of the manual between .EX and .EE, each line that begins with
+# '$ ' is a command, and what follows it, up to the next one, is what the shell then shows. A page's commands run in turn, in a
+# folder with the examples.
 examples() {
     page=$1
     here=$room/$(basename "$page" .md)
@@ -454,9 +506,10 @@ examples() {
     cp -r "$top/examples" "$here/examples"
     printf '#!/bin/sh\nexec "$@"\n' >"$here/bigrosk"
     chmod +x "$here/bigrosk"
-    awk -v to="$here/shown" '
-        /^```console$/ { inside = 1; next }
-        /^```/ { inside = 0 }
+    awk -v to="$here/shown" -v manual="${page%%*.md}" '
+        /^```console$|^\.EX$/ { inside = 1; next }
+        /^```|^\.EE$/ { inside = 0 }
+        manual { gsub(/\\-/, "-"); gsub(/\\e/, "\\") }
         inside && /^\$ / { n++; print substr($0, 3) > (to "/" n ".command"); printf "" > (to "/" n ".output"); next }
         inside { print > (to "/" n ".output") }
         END { print n + 0 > (to "/count") }
@@ -476,5 +529,7 @@ examples() {
 }
 examples "$top/README.md"
 examples "$top/docs/PROGRAM.md"
+examples "$top/share/man/ini_tool.1"
+examples "$top/share/man/ini_file.1"
 
 finish

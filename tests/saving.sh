@@ -141,13 +141,13 @@ refusals() {
     there 'a word that is no text: nothing is written' settings.ini "$source" other.ini "$other"
     # a value that stands neither bare nor in quotes
     printf 'a=1\nb = " \\"\047"\n' >unwritable.ini
-    ends 'merge: the key of the general section is told' 2 '' "ini_file: settings.ini: b: $unwritable" \
+    ends 'merge: the key of the general section is reported' 2 '' "ini_file: settings.ini: b: $unwritable" \
         merge settings.ini unwritable.ini
     { echo '[s]'; cat unwritable.ini; } >section.ini
-    ends 'merge: the section and the key are told' 2 '' "ini_file: settings.ini: [s] b: $unwritable" \
+    ends 'merge: the section and the key are reported' 2 '' "ini_file: settings.ini: [s] b: $unwritable" \
         merge settings.ini section.ini
     printf '[a]\n  junk' >no_place.ini
-    ends 'a name that can not be written is told before a place that is not there' 2 '' \
+    ends 'a name that can not be written is reported before a place that is not there' 2 '' \
         "ini_file: no_place.ini: this name can't be written so that it is read back
 note: it has ]: use --brackets" --multiline set no_place.ini k v 'a]b'
     printf 'a=1\r\n  =v\r\n' >refused.ini
@@ -654,7 +654,7 @@ END
     { echo "status $?"; sed -E "s|[^ ]*/\.ini_file\.[0-9]+\.0|BESIDE|; s|$room/case/||" "$room/err"; cat .ini_file.*.0; } >"$room/have"
     { echo 'status 4'; echo "ini_file: settings.ini: note: it isn't whole; its old text is in BESIDE"
         echo 'ini_file: settings.ini: Input/output error (os error 5)'; printf "$source"; } >"$room/want"
-    count 'set --in-place, neither text can be written: the copy stays, and is told'
+    count 'set --in-place, neither text can be written: the copy stays, and is reported'
     # the same without a copy
     fresh
     made=$(nth openat O_EXCL set --in-place settings.ini name two)
@@ -664,7 +664,7 @@ END
     { echo "status $?"; sed "s|$room/case/||" "$room/err"; ls -A; } >"$room/have"
     printf '%s\n' 'status 4' "ini_file: settings.ini: note: it isn't whole" \
         'ini_file: settings.ini: Input/output error (os error 5)' other.ini settings.ini >"$room/want"
-    count "set --in-place, neither text can be written, and there is no copy: it is told that the file isn't whole"
+    count "set --in-place, neither text can be written, and there is no copy: it is reported that the file isn't whole"
 }
 
 # A call of write that takes three bytes alone, and no byte. Strace answers so in place of the system, so the three bytes are
@@ -1011,7 +1011,7 @@ placed() {
         { echo "status $?"; cat other.ini; ls -A; } >>"$room/have"
         { echo "ini_file: settings.ini: Device or resource busy (os error 16); $advice"; echo 'status 4'; printf "$other"
             printf '%s\n' more.ini other.ini settings.ini; } >"$room/want"
-        count "$words, which is mounted alone: what helps is told, and it stands"
+        count "$words, which is mounted alone: what helps is reported, and it stands"
         # shellcheck disable=SC2016,SC2086
         unshare -m sh -c 'mount --bind other.ini settings.ini && shift && "$@"' sh sh "$program" ${words%% *} --in-place ${words#* } \
             >"$room/have" 2>&1

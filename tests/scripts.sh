@@ -179,12 +179,12 @@ built 'a build with standard error closed' 1
 checkout
 script --build ini_tool
 is 'only built: status 0, and the program did not run' 'status 0, ' "status $status, $(cat "$room/out")"
-is 'what the first build costs is told, and then how far it is' "building $top/crates/ini_tool/out/ini_tool: each function is proved\
+is 'what the first build costs is reported, and then how far it is' "building $top/crates/ini_tool/out/ini_tool: each function is proved\
  first, which the first time takes about 23 minutes of processor time (some 8 minutes on four cores), up to 4 GB of memory and\
  2.5 GB of disk
 so far: 1 of 2 functions" "$(cat "$room/err")"
 script --build ini_tool
-is 'only built, where it is built: nothing is told' 'status 0, ' "status $status, $(cat "$room/out" "$room/err")"
+is 'only built, where it is built: nothing is reported' 'status 0, ' "status $status, $(cat "$room/out" "$room/err")"
 script ini_tool
 built 'a run of what was only built' 1
 touch "$top/crates/second/src/lib.rt"
@@ -368,7 +368,7 @@ for signal in HUP INT TERM ctrl_c; do
     timeout 20 "$top/bigrosk" ini_tool get k </dev/null >"$room/out" 2>"$room/err"
     status=$?
     find "$top" "$TMPDIR" | sort | grep -v '/ini_tool/out$' >"$room/have"
-    count "an interrupted build ($signal) leaves no file behind"
+    count "an interrupted build ($signal) leaves no file"
     case $signal in HUP) wanted=129 ;; TERM) wanted=143 ;; *) wanted=130 ;; esac
     is "an interrupted build ($signal) ends by the signal" "status $wanted, " "status $status, $(cat "$room/out")"
     kill -0 "$(cat "$room/builder")" 2>/dev/null

@@ -19,7 +19,7 @@ printf 'k=v\n=w\n' >"$room/refused"
 mkdir "$room/folder"
 : >"$room/nothing"
 
-# told NAME STATUS WANTED ERROR: the last run's status, what it told, and that it wrote the bytes of $room/wrote
+# told NAME STATUS WANTED ERROR: the last run's status, what it reported, and that it wrote the bytes of $room/wrote
 told() {
     { echo "status $3, $4"; cksum <"$room/wrote"; } >"$room/want"
     { echo "status $2, $(cat "$room/err")"; cksum <"$room/out"; } >"$room/have"
@@ -72,7 +72,7 @@ can_trace() {
 if can_trace; then traced=yes; else traced=no; fi
 
 # traced NAME STATUS CALLS ERROR FAULT INPUT OUTPUT PROGRAM WORD ..: a run with this fault made, or with none where FAULT is
-# `none`; its status, how often it called its output, what it told, and that it wrote the bytes of $room/wrote
+# `none`; its status, how often it called its output, what it reported, and that it wrote the bytes of $room/wrote
 traced() {
     if [ "$traced" = no ]; then
         skipped=$((skipped + 1))

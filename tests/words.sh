@@ -48,9 +48,11 @@ list --policy Basic settings.ini|Basic is no policy; --policy takes one of $poli
 list settings.ini --policy=basics|basics is no policy; --policy takes one of $policies
 list settings.ini --policy|--policy takes NAME
 list settings.ini --indented-comments=yes|--indented-comments takes no text
-list settings.ini --lone-lines refuse|refuse is no word on lone lines; --lone-lines takes refused or runs-on
-list settings.ini --lone-lines=--policy --policy Basics|--policy is no word on lone lines; --lone-lines takes refused or runs-on
---lone-lines= list settings.ini| is no word on lone lines; --lone-lines takes refused or runs-on
+list settings.ini --inline-comments=yes|--inline-comments takes no text
+list settings.ini --lone-lines refuse|refuse is no word on lone lines; --lone-lines takes refused, keys or runs-on
+list settings.ini --lone-lines Keys|Keys is no word on lone lines; --lone-lines takes refused, keys or runs-on
+list settings.ini --lone-lines=--policy --policy Basics|--policy is no word on lone lines; --lone-lines takes refused, keys or runs-on
+--lone-lines= list settings.ini| is no word on lone lines; --lone-lines takes refused, keys or runs-on
 list settings.ini --lone-lines refused --policy --lone-lines|--lone-lines is no policy; --policy takes one of $policies
 list settings.ini --lone-lines|--lone-lines takes NAME
 list settings.ini --like Git|Git is no dialect; --like takes auto or one of $dialects
@@ -194,9 +196,13 @@ set settings.ini name two -n|\055-- settings.ini\n+++ settings.ini\n@@ -2,1 +2,1
 -n rename-key settings.ini id key -s client|\055-- settings.ini\n+++ settings.ini\n@@ -6,1 +6,1 @@\n-id=7\n+key=7\n
 get settings.ini name --indented-comments|one\n
 get --indented-comments settings.ini name|one\n
+get settings.ini name --inline-comments|one\n
+get --inline-comments settings.ini name|one\n
 get settings.ini name --lone-lines refused|one\n
 get settings.ini --lone-lines=refused name|one\n
 --lone-lines=refused get settings.ini name --lone-lines runs-on|one\n
+get settings.ini name --lone-lines=keys|one\n
+list --lone-lines keys settings.ini|\tname\tone\n[server]\tport\t8080\n[client]\tid\t7\n
 set settings.ini k v --output=- --separator=:|; a server\nname=one\nk=v\n[server]\nport=8080\n[client]\nid=7\n
 set none.ini k v --output=- --separator=:|k:v\n
 --like git get settings.ini NAME|one\n
@@ -256,6 +262,7 @@ sections --all --null rules.ini|0|A\000b\000a\000B\000a\000
 --like openttd get rules.ini k a|0|4\n
 --like strict get rules.ini k a|0|4\n
 --like strict get rules.ini k a --last --lone-lines runs-on|0|4\n
+--like strict get rules.ini k a --lone-lines keys|0|4\n
 --like openttd keys rules.ini A|0|k\nK\n
 --like openttd set rules.ini k v A -n|0|--- rules.ini\n+++ rules.ini\n@@ -2,1 +2,1 @@\n-k=1\n+k=v\n
 --like windows set rules.ini K v a -n|0|--- rules.ini\n+++ rules.ini\n@@ -2,1 +2,1 @@\n-k=1\n+k=v\n
@@ -281,7 +288,7 @@ Try 'ini_file --help'." list settings.ini
     unset INI_LIKE
 }
 
-# Values with types, as git writes those that it has; what a value is not is told at its place. WORDS|STATUS|OUTPUT|TOLD
+# Values with types, as git writes those that it has; what a value is not is reported at its place. WORDS|STATUS|OUTPUT|TOLD
 types() {
     HOME=/home/ada
     export HOME
@@ -337,6 +344,11 @@ END
     ends 'another user'"'"'s home folder' 2 '' "types.ini:11:5: expected a file's name; ~ is the folder of HOME, before / alone
 r = ~root/x
     ^" get types.ini r A --type path
+    printf 'a\n  k \nj\n' >lone.ini
+    ends 'no such value: a key alone' 2 '' "lone.ini:2:5: expected a whole number, as 8080 or 16k
+  k 
+    ^" --lone-lines keys get lone.ini k --type int
+    ends 'a key alone as a path' 0 '\n' '' --lone-lines keys get lone.ini k --type path
     ends 'a default that is none' 2 '' 'ini_file: types.ini: --default: expected a whole number, as 8080 or 16k' \
         get types.ini x a --type int --default x
     printf 'p = ~/x\nh = 1\n' >types.ini
@@ -550,6 +562,11 @@ refused() {
 --indented-comments~  ; a\n  = 2\n~2:3: no key stands before this~  = 2~  ^~
 --indented-comments~k = v\r;a\r[b\n~1:10: this bracket isn't closed~k = v\x000d;a\x000d[b~                   ^~note: the text ends at 2:1
 --indented-comments --lone-lines refused~  ; a\nabc\nk = v\n~2:1: this key has no = or : after it in its line~abc~^~
+--inline-comments~[s] ; a\n = 2\n~2:2: no key stands before this~ = 2~ ^~
+--inline-comments~k = v ; a\n[b\n~2:1: this bracket isn't closed~[b~^~note: the text ends at 3:1
+--inline-comments~k = "v ; a~1:5: this quote isn't closed~k = "v ; a~    ^~note: the text ends at 1:11
+--inline-comments --lone-lines refused~a = 1 ; b\nabc\n~2:1: this key has no = or : after it in its line~abc~^~
+--like supervisor~[s] ; a\n[b~2:1: this bracket isn't closed~[b~^~note: the text ends at 2:3
 --like git~\t; a\nkey\n~2:1: this key has no = or : after it~key~^~note: the text ends at 3:1
 --lone-lines refused~a = 1\nabc\nk = v\n~2:1: this key has no = or : after it in its line~abc~^~
 --lone-lines=refused~[a] b c\r\nk = v\n~1:5: this key has no = or : after it in its line~[a] b c~    ^~
@@ -558,6 +575,16 @@ refused() {
 --lone-lines refused~k = v\n  abc~2:3: this key has no = or : after it~  abc~  ^~note: the text ends at 2:6
 --like strict~a = 1\nabc\nk = v\n~2:1: this key has no = or : after it in its line~abc~^~
 --lone-lines refused --like strict~abc\n~1:1: this key has no = or : after it in its line~abc~^~
+--lone-lines keys~abc\na\\x00~2:2: this escape has no end~a\x00~ ^~note: the text ends at 2:6
+--lone-lines keys~\\x0020\\x00~1:7: this escape has no end~\x0020\x00~      ^~note: the text ends at 1:11
+--lone-lines keys~k\n  \\\n~2:3: no key stands here~  \~  ^~note: the text ends at 3:1
+--lone-lines keys~\\x0020~1:1: no key stands here~\x0020~^~note: the text ends at 1:7
+--lone-lines keys~k\n\\\n\n~3:1: no key stands before this
+--lone-lines keys~k\n = 2\n~2:2: no key stands before this~ = 2~ ^~
+--lone-lines keys~abc\nk = "v\n~2:5: this quote isn't closed~k = "v~    ^~note: the text ends at 3:1
+--lone-lines keys~abc\nk = v\\x1~2:6: this escape has no end~k = v\x1~     ^~note: the text ends at 2:9
+--lone-lines keys~abc\n[b\n~2:1: this bracket isn't closed~[b~^~note: the text ends at 3:1
+--like strict --lone-lines keys~abc\n[b] ; c\n~2:5: a comment begins only at the front of a line~[b] ; c~    ^~
 --lone-lines refused~k\n\n= v\n~1:1: this key has no = or : after it in its line~k~^~
 END
     # among the lines of a value: CR without LF

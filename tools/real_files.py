@@ -7,7 +7,7 @@ and whether format leaves what they say.
 READER is the program of tests/program/key_file.c, which reads desktop entries, themes and units by GLib's GKeyFile (units
 without escapes, and none with a line that goes on, which it doesn't know); configparser reads .cfg and .ini. Blanks at a
 value's end, which GKeyFile keeps, make no difference, and `DEFAULT` is a section like others. A file that its own reader
-refuses isn't counted, and one that ini_file refuses is told apart. A layout is right where ini_file and the file's own reader
+refuses isn't counted, and one that ini_file refuses is counted apart. A layout is right where ini_file and the file's own reader
 find in it what they found before. Each difference is a line; the last lines are the counts.
 """
 import collections

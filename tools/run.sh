@@ -115,7 +115,7 @@ build() {
     wait "$shower"
     if [ "$status" -ne 0 ] || ! [ -x "$program" ]; then
         cat "$room/log" >&2
-        give_up "$name could not be built: mend what is told above, and run it again"
+        give_up "$name could not be built: mend what is reported above, and run it again"
     fi
     touch -r "$room/start" "$program"
     rm -rf "$room"

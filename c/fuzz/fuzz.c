@@ -6,8 +6,8 @@
  * the text. Bits of the first byte: 1 quotes, 2 escapes, 4 multiline, 8 kept indentation, 16 brackets, 32 a
  * mark is dropped, 64 the general section in place of the one of the name, 128 raw backslashes, where all of
  * the options are read by. Of the second: 1 to 8 the policy, 16 and 32 the separator, 64 that a key runs on
- * over its line's end, in place of being refused there, where all are read by, 128 CR LF. So `#A` has the
- * default options. */
+ * over its line's end, in place of being refused there, and a key alone, where all are read by, 128 CR LF. So
+ * `#A` has the default options. */
 #include "promises.h"
 
 int LLVMFuzzerTestOneInput(const uint8_t *data, size_t size);
@@ -157,7 +157,7 @@ static void write_and_load(document *it, const struct listing *listing, const st
     free(text);
 }
 
-/* No value has a line end in it, and no key where lines without separator are refused. */
+/* No value has a line end in it, and no key where it ends with its line. */
 static void are_of_one_line(const struct listing *listing, bool is_strict)
 {
     struct bigrosk_ini_walk walk = bigrosk_ini_walk_over(listing->bytes, listing->counts, listing->sizes);
@@ -169,6 +169,30 @@ static void are_of_one_line(const struct listing *listing, bool is_strict)
             PROMISE(!is_strict || (!memchr(key, '\n', count) && !memchr(key, '\r', count)));
             const char *value = bigrosk_ini_text(&walk, &count);
             PROMISE(!memchr(value, '\n', count) && !memchr(value, '\r', count));
+        }
+    }
+}
+
+/* Whether a comment mark stands after a blank. */
+static bool has_note(const char *text, size_t count)
+{
+    for (size_t i = 1; i < count; i++)
+        if (strchr(" \t", text[i - 1]) && text[i - 1] && strchr(";#", text[i]) && text[i]) return true;
+    return false;
+}
+
+/* No value has a note, and no key where it ends with its line. */
+static void are_without_notes(const struct listing *listing, bool is_strict)
+{
+    struct bigrosk_ini_walk walk = bigrosk_ini_walk_over(listing->bytes, listing->counts, listing->sizes);
+    while (!bigrosk_ini_is_over(&walk)) {
+        bigrosk_ini_text(&walk, NULL);
+        for (size_t left = bigrosk_ini_number(&walk); left > 0; left--) {
+            size_t count = 0;
+            const char *key = bigrosk_ini_text(&walk, &count);
+            PROMISE(!is_strict || !has_note(key, count));
+            const char *value = bigrosk_ini_text(&walk, &count);
+            PROMISE(!has_note(value, count));
         }
     }
 }
@@ -204,8 +228,8 @@ static bool is_of_lone_line(const fault *f)
 }
 
 /* The text by all options: as by the first five, but for backslashes where these are raw, which then keep no
- * line end, for comment marks where comments may be indented, and for lines without separator where these are
- * refused. A text in pieces is read as a document is. */
+ * line end and no mark, for comment marks where comments may be indented or stand after values, and for lines
+ * without separator where these are refused. A text in pieces is read as a document is. */
 static void read_by(const struct input *input, uint32_t status, const struct listing *listing)
 {
     const struct bigrosk_ini_reading *reading = &input->reading;
@@ -215,34 +239,75 @@ static void read_by(const struct input *input, uint32_t status, const struct lis
     fault f = { 0, 0, 0, "" };
     bool is_raw = reading->raw_backslash && !reading->escapes;
     bool differs = is_raw && text.count && memchr(text.at, '\\', text.count);
-    if (reading->indented_comments && text.count)
+    if ((reading->indented_comments || reading->inline_comments) && text.count)
         differs = differs || memchr(text.at, ';', text.count) || memchr(text.at, '#', text.count);
     bool is_strict = reading->lone_lines == BIGROSK_INI_LONE_LINES_REFUSED;
     uint32_t told = bigrosk_ini_load_by(text.at, text.count, input->drop_mark, reading, &it, &f);
     PROMISE(told == status || (differs && (told == BIGROSK_INI_OK || told == BIGROSK_INI_BROKEN))
         || (is_strict && told == BIGROSK_INI_BROKEN && is_of_lone_line(&f)));
     PROMISE(f.kind != BIGROSK_INI_NO_SEPARATOR || is_strict);
+    PROMISE(f.kind != BIGROSK_INI_INLINE_COMMENT || !reading->inline_comments);
     PROMISE(f.kind <= BIGROSK_INI_NO_SEPARATOR && (told == BIGROSK_INI_BROKEN) == (f.kind >= BIGROSK_INI_END_OF_TEXT));
     if (told == BIGROSK_INI_OK) {
         struct listing had = listing_of(&it);
         PROMISE(differs || is_same_listing(&had, listing));
         if (is_raw && !reading->quotes && !reading->multiline) are_of_one_line(&had, is_strict);
+        if (is_raw && !reading->quotes && reading->inline_comments)
+            are_without_notes(&had, is_strict && !reading->keep_indentation);
         write_and_load_by(&it, &had, input);
         free_listing(&had);
     }
     told = bigrosk_ini_load_by(text.at, text.count, false, reading, &it, &f);
     PROMISE(bigrosk_ini_text_open_by(text.at, text.count, reading, &pieces, &f) == told);
-    note(30u + reading->indented_comments, told);
+    note(30u + reading->indented_comments + 4u * reading->inline_comments, told);
     bigrosk_ini_text_close(&pieces);
     bigrosk_ini_free(&it);
 }
 
-/* The same without indented comments, and with them. */
+/* Where lines without separator are keys alone, the text is read as where they are refused, but where one is. */
+static void read_keys_alone(struct input *input)
+{
+    struct bigrosk_ini_reading strict = input->reading, *reading = &input->reading;
+    struct bytes text = input->text;
+    document it = BIGROSK_INI_EMPTY, other = BIGROSK_INI_EMPTY;
+    struct bigrosk_ini_text pieces = BIGROSK_INI_TEXT_EMPTY;
+    fault f = { 0, 0, 0, "" }, g = { 0, 0, 0, "" };
+    uint32_t status = bigrosk_ini_load_by(text.at, text.count, input->drop_mark, &strict, &other, &g);
+    reading->lone_lines = BIGROSK_INI_LONE_LINES_KEYS;
+    uint32_t told = bigrosk_ini_load_by(text.at, text.count, input->drop_mark, reading, &it, &f);
+    bool has_lone_line = status == BIGROSK_INI_BROKEN && is_of_lone_line(&g);
+    PROMISE(f.kind < BIGROSK_INI_NO_SEPARATOR && (told == BIGROSK_INI_BROKEN) == (f.kind >= BIGROSK_INI_END_OF_TEXT));
+    PROMISE(has_lone_line ? told == BIGROSK_INI_OK || told == BIGROSK_INI_BROKEN
+        : told == status && f.kind == g.kind && f.line == g.line && f.column == g.column);
+    if (told == BIGROSK_INI_OK) {
+        struct listing had = listing_of(&it);
+        if (!has_lone_line) {
+            struct listing wanted = listing_of(&other);
+            PROMISE(is_same_listing(&had, &wanted));
+            free_listing(&wanted);
+        }
+        if (reading->raw_backslash && !reading->escapes && !reading->quotes && !reading->multiline)
+            are_of_one_line(&had, true);
+        write_and_load_by(&it, &had, input);
+        free_listing(&had);
+    }
+    told = bigrosk_ini_load_by(text.at, text.count, false, reading, &it, &f);
+    PROMISE(bigrosk_ini_text_open_by(text.at, text.count, reading, &pieces, &f) == told);
+    note(32u + reading->indented_comments + 4u * reading->inline_comments, told);
+    bigrosk_ini_text_close(&pieces);
+    bigrosk_ini_free(&other);
+    bigrosk_ini_free(&it);
+    *reading = strict;
+}
+
+/* The same without indented and inline comments, and with them. */
 static void read_by_all(struct input *input, uint32_t status, const struct listing *listing)
 {
-    for (uint8_t comments = 0; comments < 2; comments++) {
-        input->reading.indented_comments = comments;
+    for (uint8_t comments = 0; comments < 4; comments++) {
+        input->reading.indented_comments = comments & 1u;
+        input->reading.inline_comments = comments >> 1;
         read_by(input, status, listing);
+        if (input->reading.lone_lines == BIGROSK_INI_LONE_LINES_REFUSED) read_keys_alone(input);
     }
 }
 

@@ -40,7 +40,7 @@ enum edit_kind { SET, ADD, DELETE, RENAME_KEY, DELETE_SECTION, RENAME_SECTION, E
 
 void broken(const char *file, int line, const char *promise);
 
-/* Memory that holds some value; a want of memory ends the process well. */
+/* Memory that holds some value; running out of memory ends the process well. */
 void *filled(size_t count);
 
 /* Says that an input did this, so that libFuzzer keeps one that does something new. */

@@ -48,7 +48,7 @@ KINDS = (
     "header end",
     "no separator",
 )
-LONE_LINES = ("run on", "refused")
+LONE_LINES = ("run on", "refused", "keys")
 UNWRITABLE = {UNPLAIN_VALUE: "value", UNPLAIN_KEY: "key", NO_PLACE: "place", UNPLAIN_NAME: "name"}
 
 
@@ -76,8 +76,9 @@ class Sizes(ctypes.Structure):
 class ReadOption(ctypes.Structure):
     """How a text is read. With raw_backslash, where escapes are off, a backslash is a character like any
     other, before a line feed too. With lone_lines="refused" a text is refused where no separator follows a key
-    in its line; else such keys "run on" over the line end. With indented_comments, blanks and ; or # begin a
-    comment where a line starts."""
+    in its line, and with "keys" the key has the empty value; else such keys "run on" over the line end. With
+    indented_comments, blanks and ; or # begin a comment where a line starts, and with inline_comments a blank
+    and a mark do in a value outside quotes, and a mark after a section's name."""
 
     _fields_ = [
         ("size", ctypes.c_uint8),
@@ -89,6 +90,7 @@ class ReadOption(ctypes.Structure):
         ("raw_backslash", ctypes.c_bool),
         ("_lone_lines", ctypes.c_uint8),
         ("indented_comments", ctypes.c_bool),
+        ("inline_comments", ctypes.c_bool),
     ]
 
     def __init__(
@@ -101,11 +103,13 @@ class ReadOption(ctypes.Structure):
         raw_backslash: bool = False,
         lone_lines: str = "run on",
         indented_comments: bool = False,
+        inline_comments: bool = False,
     ) -> None:
         size = ctypes.sizeof(ReadOption)
         super().__init__(size, quotes, escapes, multiline, keep_indentation, brackets, raw_backslash)
         self.lone_lines = lone_lines
         self.indented_comments = indented_comments
+        self.inline_comments = inline_comments
 
     @property
     def lone_lines(self) -> str:
@@ -114,12 +118,12 @@ class ReadOption(ctypes.Structure):
     @lone_lines.setter
     def lone_lines(self, word: str) -> None:
         if word not in LONE_LINES:
-            raise ValueError(f'lone lines "run on", or are "refused": this is {shown(word)}')
+            raise ValueError(f'lone lines "run on", or are "refused" or "keys": this is {shown(word)}')
         self._lone_lines = LONE_LINES.index(word)
 
     def has_later_ones(self) -> bool:
         """Whether an option that FirstFive lacks is another than by default."""
-        return bool(self.raw_backslash or self._lone_lines or self.indented_comments)
+        return bool(self.raw_backslash or self._lone_lines or self.indented_comments or self.inline_comments)
 
 
 class FirstFive(ctypes.Structure):

@@ -35,11 +35,11 @@ function __bigrosk_policies
 end
 
 function __bigrosk_lone_lines
-    printf '%s\n' refused runs-on
+    printf '%s\n' refused keys runs-on
 end
 
 function __bigrosk_options
-    printf '%s\n' --noescape --noquote --multiline --indent --brackets --raw-backslash --indented-comments --lone-lines --crlf --policy
+    printf '%s\n' --noescape --noquote --multiline --indent --brackets --raw-backslash --indented-comments --inline-comments --lone-lines --crlf --policy
 end
 
 # The sections of the file that is named.

@@ -185,9 +185,10 @@ def compare_numbers():
     same("lone lines", list(lone.values()), [int(n) for n in re.findall(r"(\d+) => Some\(LoneLine::\w+\),", SOURCES)])
     words = [it.replace("_", " ").lower() for it in lone]
     same("lone lines of the module", words, ["lone lines " + it for it in calls_of_module.LONE_LINES])
-    comments = re.search(r"uint8_t indented_comments; /\* (.*?) \*/", HEADER.read_text())[1]
     said = {word: re.search(rf"(\d+) => Some\({word}\),", SOURCES)[1] for word in ("true", "false")}
-    same("indented comments", re.findall(r"\d", comments), [said["true"], said["false"]])
+    for name in ("indented_comments", "inline_comments"):
+        comments = re.search(rf"uint8_t {name}; +/\* (.*?) \*/", HEADER.read_text())[1]
+        same(name, re.findall(r"\d", comments), [said["true"], said["false"]])
     separators = re.search(r"uint32_t separator; /\* (.*?) \*/", HEADER.read_text())[1]
     said = {text: 3 if n == "any other number" else int(n) for n, text in re.findall(r'(\d+|any other number) (".*?")', separators)}
     same("separators", said, cases(r'(\d+|_) => (".*?"),', 3))

@@ -96,7 +96,7 @@ static void readings(void)
     struct bigrosk_ini_reading r = BIGROSK_INI_READING_DEFAULT;
     document d = BIGROSK_INI_EMPTY;
     fault f;
-    CHECK(r.size == sizeof r && r.size == 9);
+    CHECK(r.size == sizeof r && r.size == 10);
     CHECK(!are_read(&r, "C:xk=v", false)); /* \x begins an escape, and is broken */
     r.raw_backslash = true;
     CHECK(bigrosk_ini_load_by((const uint8_t *)"k=a\\tb\n", 7, true, &r, &d, &f) == BIGROSK_INI_OK);
@@ -122,7 +122,7 @@ static void readings(void)
         for (int raw = 0; raw < 2; raw++) {
             const bool *o = rows[i].others;
             struct bigrosk_ini_read_option five = { o[0], o[1], o[2], o[3], o[4] };
-            struct bigrosk_ini_reading all = { sizeof all, o[0], o[1], o[2], o[3], o[4], raw, BIGROSK_INI_LONE_LINES_RUN_ON, 0 };
+            struct bigrosk_ini_reading all = { sizeof all, o[0], o[1], o[2], o[3], o[4], raw, BIGROSK_INI_LONE_LINES_RUN_ON, 0, 0 };
             document one = BIGROSK_INI_EMPTY, other = BIGROSK_INI_EMPTY;
             const uint8_t *text = bigrosk_ini_bytes(rows[i].text);
             size_t n = strlen(rows[i].text), count = 0;
@@ -177,15 +177,16 @@ static void lone_lines(void)
         fault f = { 77, 7, 7, "seven" };
         later.lone_lines = (uint8_t)number;
         later.size = sizeof later;
-        uint32_t want = number == 0 ? BIGROSK_INI_OK : number == 1 ? BIGROSK_INI_BROKEN : BIGROSK_INI_UNKNOWN_OPTION;
-        CHECK(answered(&later, "abc\nk=v\n", &f) == want && (f.kind == 77) == (number != 1));
-        CHECK(answered(&later, "k=v\n", &f) == (number < 2 ? BIGROSK_INI_OK : BIGROSK_INI_UNKNOWN_OPTION));
+        bool is_known = number <= BIGROSK_INI_LONE_LINES_KEYS, is_refused = number == BIGROSK_INI_LONE_LINES_REFUSED;
+        uint32_t want = is_refused ? BIGROSK_INI_BROKEN : is_known ? BIGROSK_INI_OK : BIGROSK_INI_UNKNOWN_OPTION;
+        CHECK(answered(&later, "abc\nk=v\n", &f) == want && (f.kind == 77) == !is_refused);
+        CHECK(answered(&later, "k=v\n", &f) == (is_known ? BIGROSK_INI_OK : BIGROSK_INI_UNKNOWN_OPTION));
         CHECK(answered(&later, "\xff", &f) == BIGROSK_INI_NOT_UTF8);
         CHECK(bigrosk_ini_load_str("k=v\n", &d, &f) == BIGROSK_INI_OK);
-        CHECK(bigrosk_ini_is_plain_by(&d, &plain, &later) == (number < 2));
-        want = number < 2 ? BIGROSK_INI_OK : BIGROSK_INI_UNKNOWN_OPTION;
+        CHECK(bigrosk_ini_is_plain_by(&d, &plain, &later) == is_known);
+        want = is_known ? BIGROSK_INI_OK : BIGROSK_INI_UNKNOWN_OPTION;
         CHECK(bigrosk_ini_load_by((const uint8_t *)"j=w\n", 4, true, &later, &d, &f) == want);
-        CHECK(is_value(&d, NULL, number < 2 ? "j" : "k", number < 2 ? "w" : "v"));
+        CHECK(is_value(&d, NULL, is_known ? "j" : "k", is_known ? "w" : "v"));
         /* a program that was compiled before */
         later.size = offsetof(struct bigrosk_ini_reading, lone_lines);
         CHECK(answered(&later, "abc\nk=v\n", &f) == BIGROSK_INI_OK && bigrosk_ini_is_plain_by(&d, &plain, &later));
@@ -208,7 +209,34 @@ static bool has_document(const struct bigrosk_ini_reading *reading, const char *
     return good;
 }
 
-/* Indented comments, among the lines of a value too, and behind CR; numbers that stand for nothing, and a size that doesn't
+/* Keys alone, which have the empty value, in a document and in a text. */
+static void keys_alone(void)
+{
+    static const struct { const char *text, *want; } rows[] = {
+        { "abc\nk=v\n", "abc=\nk=v\n" },    { "abc", "abc=\n" },
+        { "  abc\r\n", "abc=\n" },            { "a\\=b\n", "a=b=\n" },
+        { "skip-x # n\n", "skip-x # n=\n" },  { "k\n  w\n", "k=\nw=\n" },
+        { "a\\", "a\\\\=\n" },                { "!include /x\n.include /a=b\n", "!include /x=\n.include /a=b\n" },
+    };
+    struct bigrosk_ini_reading keys = BIGROSK_INI_READING_DEFAULT;
+    struct bigrosk_ini_text t = BIGROSK_INI_TEXT_EMPTY;
+    fault f = { 77, 7, 7, "seven" };
+    keys.lone_lines = BIGROSK_INI_LONE_LINES_KEYS;
+    for (int multiline = 0; multiline < 2; multiline++)
+        for (size_t i = 0; i < sizeof rows / sizeof *rows; i++) {
+            keys.multiline = multiline;
+            CHECK(answered(&keys, rows[i].text, &f) == BIGROSK_INI_OK && f.kind == 77);
+            CHECK(has_document(&keys, rows[i].text, rows[i].want));
+        }
+    CHECK(answered(&keys, "\\\n\n", &f) == BIGROSK_INI_BROKEN);
+    CHECK(f.kind == BIGROSK_INI_MISSING_KEY && f.line == 3 && f.column == 1 && !strcmp(f.message, "missing key"));
+    CHECK(answered(&keys, "\\\n", &f) == BIGROSK_INI_BROKEN);
+    CHECK(f.kind == BIGROSK_INI_END_OF_TEXT && f.line == 2 && f.column == 1);
+    CHECK(bigrosk_ini_text_open_by((const uint8_t *)"k\nj\n", 4, &keys, &t, &f) == BIGROSK_INI_OK);
+    bigrosk_ini_text_close(&t);
+}
+
+/* Indented comments, among the lines of a value too, and after CR; numbers that stand for nothing, and a size that doesn't
  * reach them. */
 static void indented_comments(void)
 {
@@ -243,6 +271,45 @@ static void indented_comments(void)
         struct bigrosk_ini_write_option w = plain;
         CHECK(bigrosk_ini_dialect_by_str("strict", &later, &w) == BIGROSK_INI_OK && later.size == 8);
         CHECK(later.lone_lines == BIGROSK_INI_LONE_LINES_REFUSED && later.indented_comments == number);
+    }
+    bigrosk_ini_free(&d);
+}
+
+/* Inline comments, after values and names; the same numbers, and a size that doesn't reach them. */
+static void inline_comments(void)
+{
+    static const struct { const char *text, *with, *without; bool multiline; } rows[] = {
+        { "k = v ; n\n", "k=v\n", "k=v ; n\n", false },       { "k = ; n\n", "k=; n\n", "k=; n\n", false },
+        { "k=a;b\t#c\n", "k=a;b\n", "k=a;b\\t#c\n", false },  { "k=a\\ ;b\n", "k=a ;b\n", "k=a ;b\n", false },
+        { "[a];n\nk=v\n", "[a]\nk=v\n", NULL, false },        { "k=v\r; c\rj=w\n", "k=v\nj=w\n", NULL, false },
+        { "k='a ;b' ; c\n", "k=a ;b\n", "k=a ;b ; c\n", false }, { "  ; c\nk=v\n", "; c\\nk=v\n", "; c\\nk=v\n", false },
+        { "k=a ; n\n b # m\n", "k=a\\nb\n", "k=a ; n\\nb # m\n", true },
+    };
+    struct bigrosk_ini_reading r = BIGROSK_INI_READING_DEFAULT, later = r;
+    document d = BIGROSK_INI_EMPTY;
+    fault f = { 77, 7, 7, "seven" };
+    CHECK(r.inline_comments == 0);
+    for (size_t i = 0; i < sizeof rows / sizeof *rows; i++)
+        for (int number = 0; number < 2; number++) {
+            const char *want = number ? rows[i].with : rows[i].without;
+            later.multiline = rows[i].multiline;
+            later.inline_comments = (uint8_t)number;
+            CHECK(answered(&later, rows[i].text, &f) == (want ? BIGROSK_INI_OK : BIGROSK_INI_BROKEN));
+            CHECK(!want || has_document(&later, rows[i].text, want));
+        }
+    CHECK(bigrosk_ini_load_str("k=a ;b\n", &d, &f) == BIGROSK_INI_OK);
+    CHECK(bigrosk_ini_is_plain_by(&d, &plain, &r) && !bigrosk_ini_is_plain_by(&d, &plain, &later));
+    for (int number = 2; number < 256; number++) {
+        later = r;
+        later.inline_comments = (uint8_t)number;
+        CHECK(answered(&later, "k=v\n", &f) == BIGROSK_INI_UNKNOWN_OPTION && answered(&later, "\xff", &f) == BIGROSK_INI_NOT_UTF8);
+        CHECK(!bigrosk_ini_is_plain_by(&d, &plain, &later));
+        /* a program that was compiled before */
+        later.size = offsetof(struct bigrosk_ini_reading, inline_comments);
+        CHECK(answered(&later, "k=v\n", &f) == BIGROSK_INI_OK && bigrosk_ini_is_plain_by(&d, &plain, &later));
+        struct bigrosk_ini_write_option w = plain;
+        CHECK(bigrosk_ini_dialect_by_str("git", &later, &w) == BIGROSK_INI_OK && later.size == 9);
+        CHECK(later.indented_comments == 1 && later.inline_comments == number);
     }
     bigrosk_ini_free(&d);
 }
@@ -484,7 +551,9 @@ static void dialects(void)
         { "strict", { true, true, false, false, false }, { BIGROSK_INI_BASICS, false, 0 } },
     };
     static const char *const raw[] = { "python", "fail2ban", "aws", "hg", "mysql", NULL };
+    static const char *const keyed[] = { "mysql", "pulseaudio", "openssl", NULL };
     static const char *const commented[] = { "git", "desktop", "python", "odbc", "freetds", NULL };
+    static const char *const noted[] = { "fail2ban", "supervisor", "openssl", NULL };
     for (size_t i = 0; i < sizeof rows / sizeof *rows; i++) {
         struct bigrosk_ini_read_option r = { true, true, true, true, true }, wanted = rows[i].read;
         struct bigrosk_ini_write_option w = { 5, true, 9 };
@@ -492,17 +561,19 @@ static void dialects(void)
         CHECK(r.quotes == wanted.quotes && r.escapes == wanted.escapes && r.multiline == wanted.multiline);
         CHECK(r.keep_indentation == wanted.keep_indentation && r.brackets == wanted.brackets);
         CHECK(w.policy == rows[i].write.policy && w.crlf == rows[i].write.crlf && w.separator == rows[i].write.separator);
-        /* the struct with further options is told the same, and these */
+        /* the struct with further options gets the same, and these */
         for (int before = 0; before < 2; before++) {
-            struct bigrosk_ini_reading all = { sizeof all, before, before, before, before, before, before, before, before };
+            struct bigrosk_ini_reading all = { sizeof all, before, before, before, before, before, before, before, before, before };
             struct bigrosk_ini_write_option v = { 5, true, 9 };
             CHECK(bigrosk_ini_dialect_by_str(rows[i].name, &all, &v) == BIGROSK_INI_OK && all.size == sizeof all);
             CHECK(all.quotes == wanted.quotes && all.escapes == wanted.escapes && all.multiline == wanted.multiline);
             CHECK(all.keep_indentation == wanted.keep_indentation && all.brackets == wanted.brackets);
             CHECK(all.raw_backslash == is_word_of(raw, rows[i].name));
-            bool is_strict = !strcmp(rows[i].name, "strict");
-            CHECK(all.lone_lines == (is_strict ? BIGROSK_INI_LONE_LINES_REFUSED : BIGROSK_INI_LONE_LINES_RUN_ON));
+            bool is_strict = !strcmp(rows[i].name, "strict"), is_keyed = is_word_of(keyed, rows[i].name);
+            CHECK(all.lone_lines == (is_strict ? BIGROSK_INI_LONE_LINES_REFUSED
+                : is_keyed ? BIGROSK_INI_LONE_LINES_KEYS : BIGROSK_INI_LONE_LINES_RUN_ON));
             CHECK(all.indented_comments == is_word_of(commented, rows[i].name));
+            CHECK(all.inline_comments == is_word_of(noted, rows[i].name));
             CHECK(v.policy == w.policy && v.crlf == w.crlf && v.separator == w.separator);
         }
     }
@@ -513,11 +584,11 @@ static void dialects(void)
         CHECK(bigrosk_ini_dialect_str(others[i], &r, &w) == (i == 4 ? BIGROSK_INI_NOT_UTF8 : BIGROSK_INI_ABSENT));
         CHECK(r.quotes && !r.escapes && r.multiline && !r.keep_indentation && r.brackets);
         CHECK(w.policy == 5 && w.crlf && w.separator == 9);
-        struct bigrosk_ini_reading all = { sizeof all, true, false, true, false, true, true, 9, 9 };
+        struct bigrosk_ini_reading all = { sizeof all, true, false, true, false, true, true, 9, 9, 9 };
         CHECK(bigrosk_ini_dialect_by_str(others[i], &all, &w) == (i == 4 ? BIGROSK_INI_NOT_UTF8 : BIGROSK_INI_ABSENT));
         CHECK(all.size == sizeof all && all.quotes && !all.escapes && all.multiline && !all.keep_indentation);
         CHECK(all.brackets && all.raw_backslash && all.lone_lines == 9 && all.indented_comments == 9);
-        CHECK(w.policy == 5 && w.crlf && w.separator == 9);
+        CHECK(all.inline_comments == 9 && w.policy == 5 && w.crlf && w.separator == 9);
     }
 }
 
@@ -526,7 +597,9 @@ int main(void)
     read_options();
     readings();
     lone_lines();
+    keys_alone();
     indented_comments();
+    inline_comments();
     dialects();
     policies();
     line_ends_and_separators();

@@ -369,7 +369,7 @@ static bool is_edited_by(enum edit what, const struct bigrosk_ini_read_option *r
         if (status != refused) printf("%s: status %u\n", text, (unsigned)status);
         return status == refused && out[0] == 'y' && f.message[0] == 'f';
     }
-    /* what it takes is told; one byte less is refused, and leaves the buffer; that many and a 0 fit */
+    /* what it takes is reported; one byte less is refused, and leaves the buffer; that many and a 0 fit */
     bool good = edit_by(what, read, write, text, section, key, value, none, 0, &count, &f) == BIGROSK_INI_NO_ROOM;
     good = good && none[0] == 'x' && count == strlen(want);
     room = strlen(want);

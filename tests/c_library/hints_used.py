@@ -5,7 +5,8 @@ from typing import List, Optional, Tuple
 from bigrosk_ini import Broken, Change, Conflict, Document, ReadOption, Settings, WriteOption, apply, dialect
 from bigrosk_ini import diff, edit_set, load, merge3
 
-document = Document(Path("settings.ini"), ReadOption(multiline=True, lone_lines="refused", indented_comments=True))
+read = ReadOption(multiline=True, lone_lines="refused", indented_comments=True, inline_comments=True)
+document = Document(Path("settings.ini"), read)
 port: Optional[str] = document.get("server", "port")
 sure: str = document.get("server", "port", fallback="80")
 number = int(document["server"].get("port", "80"))

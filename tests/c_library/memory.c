@@ -26,7 +26,7 @@ void __real_free(void *at);
 /* what stands before a block: how many bytes it has */
 union head { size_t count; char room[16]; };
 
-/* the block behind its head, or none */
+/* the block after its head, or none */
 static void *block(union head *head, size_t count)
 {
     if (!head) return NULL;

@@ -83,8 +83,8 @@ def reading():
         same(Document(text).walk(), without)
         same(Document(text, default).walk(), without)
     # by their places
-    names += ["raw_backslash", "lone_lines", "indented_comments"]
-    for values in ([False, True] * 3 + ["run on", True], [True, False] * 3 + ["refused", False]):
+    names += ["raw_backslash", "lone_lines", "indented_comments", "inline_comments"]
+    for values in ([False, True] * 3 + ["run on", True, False], [True, False] * 3 + ["refused", False, True]):
         option = ReadOption(*values)
         same([getattr(option, name) for name in names], values)
     same(ReadOption(True, False, True, False, True).raw_backslash, False)
@@ -133,11 +133,11 @@ def raw_backslashes():
     same(edit_set("p=C:\\\nk=v\n", None, "k", "\\", dialect="python"), "p=C:\\\nk=\\\n")
 
 
-STRICT = ReadOption(lone_lines="refused")
+STRICT, KEYS = ReadOption(lone_lines="refused"), ReadOption(lone_lines="keys")
 
 
 def lone_lines():
-    """By lone_lines, a line without separator is refused, or its key runs on, by default."""
+    """By lone_lines, a line without separator is refused, or a key alone, or its key runs on, by default."""
     text, run_on = "abc\nk=v\n", [(None, [("abc\nk", "v")])]
     for read in (None, ReadOption(), ReadOption(lone_lines="run on")):
         for given in (Document(text, read), Settings(text, read)):
@@ -148,6 +148,10 @@ def lone_lines():
         same(list(call("a\\\nb=c\n[s]\n  k:v\n", STRICT).walk()), [(None, [("ab", "c")]), ("s", [("k", "v")])])
         same(raised(call, "  abc", STRICT).kind, "end of text")
         same(list(call("  abc").walk()), [(None, [])])
+        same(list(call(text, KEYS).walk()), [(None, [("abc", ""), ("k", "v")])])
+        same(list(call("[s]\n  abc", KEYS).walk()), [(None, []), ("s", [("abc", "")])])
+        error = raised(call, "\\\n\n", KEYS)
+        same((type(error), error.line, error.column, error.kind), (Broken, 3, 1, "missing key"))
     # each edit, as str and as bytes after a mark
     for call, words, wanted in (
         (edit_set, (None, "k", "w"), "k=w\n[s]\n"),
@@ -160,22 +164,33 @@ def lone_lines():
         same(call("k=v\n[s]\n", *words, read=STRICT), wanted)
         same(call((MARK + "k=v\n[s]\n").encode(), *words, read=STRICT), (MARK + wanted).encode())
         same(raised(call, "k=v\n[s]\nj\n", *words, read=STRICT).kind, "no separator")
+    for call, words, wanted in (
+        (edit_set, (None, "k", "w"), "k=w\n[s]\n"),
+        (edit_set, (None, "k", ""), "k\n[s]\n"),
+        (edit_add, (None, "j", "w"), "k\nj=w\n[s]\n"),
+        (edit_delete, (None, "k"), "[s]\n"),
+        (edit_rename_key, (None, "k", "j"), "j\n[s]\n"),
+        (edit_delete_section, ("s",), "k\n"),
+    ):
+        same(call("k\n[s]\n", *words, read=KEYS), wanted)
     # by words, and by these alone
     option = ReadOption()
     option.lone_lines = "refused"
     same((option.lone_lines, type(raised(Document, text, option))), ("refused", Broken))
-    for word in ("keys", "", "Refused", 1, True, None):
+    for word in ("key", "", "Refused", 1, True, None):
         for call in (lambda: ReadOption(lone_lines=word), lambda: setattr(option, "lone_lines", word)):
             error = raised(call)
-            same((type(error), str(error)[:42]), (ValueError, 'lone lines "run on", or are "refused": thi'))
+            same((type(error), str(error)[:42]), (ValueError, 'lone lines "run on", or are "refused" or "'))
     same(option.lone_lines, "refused")
     # a number that this library doesn't know
-    option._lone_lines = 2
+    option._lone_lines = 3
     for call in (Document, Settings):
         same(str(raised(call, "k=v\n", option)), "a number stands for no option")
     same([Document("k=v\n").is_plain(None, read) for read in (STRICT, option)], [True, False])
     # a dialect's
-    same([dialect(name)[0].lone_lines for name in ("python", "crate", "strict")], ["run on", "run on", "refused"])
+    names = ("python", "crate", "strict", "mysql", "pulseaudio", "openssl")
+    same([dialect(name)[0].lone_lines for name in names], ["run on", "run on", "refused", "keys", "keys", "keys"])
+    same(edit_set("skip-x\nk=v\n", None, "k", "w", dialect="mysql"), "skip-x\nk=w\n")
     same(edit_set("k=v\n", None, "k", "w", dialect="strict"), "k=w\n")
     same(raised(edit_set, "k=v\nj\n", None, "k", "w", dialect="strict").kind, "no separator")
 
@@ -212,6 +227,42 @@ def indented_comments():
     # a dialect's
     same([dialect(name)[0].indented_comments for name in ("git", "systemd", "crate")], [True, False, False])
     same(edit_set("[s]\n  ; c\n  k=v\n", "s", "k", "w", dialect="git"), "[s]\n  ; c\n  k=w\n")
+
+
+NOTED = ReadOption(inline_comments=True)
+
+
+def inline_comments():
+    """By inline_comments a blank and a mark begin a comment after a value, a mark one after a name."""
+    text = "k=v ; c\n[s] # d\n  j='w'\t; e\n"
+    for call in (Document, Settings):
+        same(list(call(text, NOTED).walk()), [(None, [("k", "v")]), ("s", [("j", "w")])])
+        same(raised(call, text).kind, "inline comment")
+        for read in (None, ReadOption(), ReadOption(inline_comments=False)):
+            same(list(call("k=v ; c\n", read).walk()), [(None, [("k", "v ; c")])])
+        same(list(call("k=v\r; c\rj=a;b\n", NOTED).walk()), [(None, [("k", "v"), ("j", "a;b")])])
+        both = ReadOption(multiline=True, indented_comments=True, inline_comments=True)
+        same(list(call("k=a ; n\n ; c\n b # m\n", both).walk()), [(None, [("k", "a\nb")])])
+    # each edit, as str and as bytes after a mark
+    for call, words, wanted in (
+        (edit_set, (None, "k", "w"), text.replace("k=v", "k=w")),
+        (edit_set, ("s", "j", "a ;b"), text.replace("'w'", "'a ;b'")),
+        (edit_add, ("s", "i", "u"), text + "  i=u\n"),
+        (edit_delete, (None, "k"), text.replace("k=v ; c\n", "")),
+        (edit_rename_key, ("s", "j", "i"), text.replace("j=", "i=")),
+        (edit_delete_section, ("s",), "k=v ; c\n"),
+        (edit_rename_section, ("s", "t"), text.replace("[s]", "[t]")),
+    ):
+        same(call(text, *words, read=NOTED), wanted)
+        same(call((MARK + text).encode(), *words, read=NOTED), (MARK + wanted).encode())
+    option = ReadOption()
+    option.inline_comments = True
+    same(list(Document("k=v #", option).walk()), [(None, [("k", "v")])])
+    same([Document("k=a ;b\n").is_plain(None, read) for read in (None, NOTED, option)], [True, False, False])
+    # a dialect's
+    names = ("fail2ban", "supervisor", "openssl", "python", "crate")
+    same([dialect(name)[0].inline_comments for name in names], [True, True, True, False, False])
+    same(edit_set("[s] ; n\nk=v ; c\n", "s", "k", "w", dialect="supervisor"), "[s] ; n\nk=w ; c\n")
 
 
 def marks():
@@ -538,7 +589,8 @@ def threads():
     same(wrong, [])
 
 
-for part in (reading, raw_backslashes, lone_lines, indented_comments, dialects, marks, writing, plain, edits, faults, unwritable, absent, no_texts, copies):
+parts = (reading, raw_backslashes, lone_lines, indented_comments, inline_comments, dialects, marks, writing)
+for part in parts + (plain, edits, faults, unwritable, absent, no_texts, copies):
     part()
 nothing_loaded()
 threads()

@@ -363,6 +363,7 @@ static void dialects(const char *path)
     struct bigrosk_ini_file unit = BIGROSK_INI_FILE_EMPTY, git = BIGROSK_INI_FILE_EMPTY, none = BIGROSK_INI_FILE_EMPTY;
     struct bigrosk_ini_file nowhere = BIGROSK_INI_FILE_EMPTY, hg = BIGROSK_INI_FILE_EMPTY, before = BIGROSK_INI_FILE_EMPTY;
     struct bigrosk_ini_file lone = BIGROSK_INI_FILE_EMPTY, unknown = BIGROSK_INI_FILE_EMPTY, commented = BIGROSK_INI_FILE_EMPTY;
+    struct bigrosk_ini_file keys = BIGROSK_INI_FILE_EMPTY, noted = BIGROSK_INI_FILE_EMPTY;
     struct bigrosk_ini_read_option five = BIGROSK_INI_READ_DEFAULT;
     char value[64] = "";
     put(path, "[Service]\nExecStart=\"/bin/a\" \\t\n");
@@ -396,9 +397,18 @@ static void dialects(const char *path)
     put(path, "\xef\xbb\xbf[a]\nk\nj=v\n");
     CHECK(bigrosk_ini_file_read_by(&lone, path, &reading) == BIGROSK_INI_BROKEN);
     CHECK(lone.place.line == 3 && lone.place.column == 1 && !strcmp(lone.message, "no separator follows the key in its line"));
-    reading.lone_lines++;
+    reading.lone_lines = BIGROSK_INI_LONE_LINES_KEYS + 1;
     CHECK(bigrosk_ini_file_read_by(&unknown, path, &reading) == BIGROSK_INI_UNKNOWN_OPTION && unknown.place.line == 0);
     CHECK(!lone.text.is_open && !unknown.text.is_open);
+    /* and as a key alone: its line stays until it is set */
+    reading.lone_lines = BIGROSK_INI_LONE_LINES_KEYS;
+    CHECK(bigrosk_ini_file_read_by(&keys, path, &reading) == BIGROSK_INI_OK);
+    CHECK(!strcmp(bigrosk_ini_file_string(&keys, "a", "k", value, sizeof value, "none"), ""));
+    CHECK(bigrosk_ini_file_set(&keys, "a", "j", "w") == BIGROSK_INI_OK && bigrosk_ini_file_save(&keys) == BIGROSK_INI_OK);
+    CHECK(is_file(path, "\xef\xbb\xbf[a]\nk\nj=w\n"));
+    CHECK(bigrosk_ini_file_set(&keys, "a", "k", "w") == BIGROSK_INI_OK && bigrosk_ini_file_save(&keys) == BIGROSK_INI_OK);
+    CHECK(is_file(path, "\xef\xbb\xbf[a]\nk=w\nj=w\n"));
+    bigrosk_ini_file_close(&keys);
     /* an indented comment, by a reading that has these */
     reading.lone_lines = BIGROSK_INI_LONE_LINES_RUN_ON;
     reading.indented_comments = 1;
@@ -406,6 +416,14 @@ static void dialects(const char *path)
     CHECK(bigrosk_ini_file_read_by(&commented, path, &reading) == BIGROSK_INI_OK);
     CHECK(!strcmp(bigrosk_ini_file_string(&commented, "a", "k", value, sizeof value, ""), "v"));
     bigrosk_ini_file_close(&commented);
+    /* a comment after a value, by a reading that has these: it stays where the value is set */
+    reading.inline_comments = 1;
+    put(path, "[a] ; n\nk=v # m\n");
+    CHECK(bigrosk_ini_file_read_by(&noted, path, &reading) == BIGROSK_INI_OK);
+    CHECK(!strcmp(bigrosk_ini_file_string(&noted, "a", "k", value, sizeof value, ""), "v"));
+    CHECK(bigrosk_ini_file_set(&noted, "a", "k", "w") == BIGROSK_INI_OK && bigrosk_ini_file_save(&noted) == BIGROSK_INI_OK);
+    CHECK(is_file(path, "[a] ; n\nk=w # m\n"));
+    bigrosk_ini_file_close(&noted);
     put(path, "[user]\nname = a\\\\b\n");
     CHECK(bigrosk_ini_file_open_as(&none, path, "Git") == BIGROSK_INI_NO_DIALECT && none.place.line == 0);
     CHECK(bigrosk_ini_file_save(&none) == BIGROSK_INI_NO_DIALECT && is_file(path, "[user]\nname = a\\\\b\n"));

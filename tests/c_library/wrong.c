@@ -52,7 +52,10 @@ uint32_t __wrap_bigrosk_ini_load_by(TEXT, bool drop_mark, READING, DOCUMENT, FAU
     if (is_wrong("load_by_overlooks_raw_backslashes")) other.raw_backslash = false;
     if (is_wrong("load_by_overlooks_quotes")) other.quotes = true;
     if (is_wrong("load_by_overlooks_lone_lines")) other.lone_lines = BIGROSK_INI_LONE_LINES_RUN_ON;
+    if (other.lone_lines == BIGROSK_INI_LONE_LINES_KEYS && is_wrong("load_by_refuses_keys_alone"))
+        other.lone_lines = BIGROSK_INI_LONE_LINES_REFUSED;
     if (is_wrong("load_by_overlooks_indented_comments")) other.indented_comments = 0;
+    if (is_wrong("load_by_overlooks_inline_comments")) other.inline_comments = 0;
     uint32_t status = __real_bigrosk_ini_load_by(TEXTS, drop_mark, &other, document, fault);
     if (status == BIGROSK_INI_BROKEN && is_wrong("load_by_has_no_kind_of_lone_lines") && fault->kind == BIGROSK_INI_NO_SEPARATOR)
         fault->kind = BIGROSK_INI_MISSING_KEY;
@@ -72,6 +75,7 @@ uint32_t __wrap_bigrosk_ini_text_open_by(const uint8_t *bytes, size_t bytes_coun
     if (is_wrong("text_open_by_overlooks_raw_backslashes")) other.raw_backslash = false;
     if (is_wrong("text_open_by_overlooks_lone_lines")) other.lone_lines = BIGROSK_INI_LONE_LINES_RUN_ON;
     if (is_wrong("text_open_by_overlooks_indented_comments")) other.indented_comments = 0;
+    if (is_wrong("text_open_by_overlooks_inline_comments")) other.inline_comments = 0;
     return __real_bigrosk_ini_text_open_by(bytes, bytes_count, &other, text, fault);
 }
 

@@ -29,7 +29,7 @@ done <<'ROWS'
 --color=always|k=1\nj=1\n|k=2\ni=3\n|\0033[33mk: 1 -> 2\0033[m\n\0033[32m+ i: 3\0033[m\n\0033[31m- j: 1\0033[m\n
 ROWS
 
-# Worked out by hand. A row is words, the edits, the file, the status, the file then, and what is told.
+# Worked out by hand. A row is words, the edits, the file, the status, the file then, and what is reported.
 note='note: an edit is [section], key, -old and +new, with a tab between, as diff --format edits writes it\n'
 while IFS='|' read -r words edits text status want err; do
     side it.ini "$text"

@@ -30,6 +30,14 @@ done <<'ROWS'
 |one\ntwo = 2\n|1:1 runs-on;
 |a=b\none\r\n= 2|2:1 runs-on;
 |one=1\ntwo = 2\n|
+--lone-lines keys|one\ntwo = 2\n|
+--lone-lines keys|a\\\nb\n|1:1 runs-on;
+--lone-lines keys|[a] k\n|1:5 after-header;
+--lone-lines keys|k\nk\n|2:1 repeated-key;
+--lone-lines keys|a=1\n  port 80|
+--lone-lines keys|  ; note\nk = v|1:1 mark-begins-key;
+--lone-lines keys --indented-comments|  ; note\nk = v|
+--lone-lines keys --multiline|k\n  w\n|
 |  ; note\nk = v|1:1 comment-runs-on;
 |; note\nk = v|
 |a=b\n\t#k = v\n|2:1 mark-begins-key;
@@ -172,6 +180,8 @@ done <<'ROWS'
 |; note\n\t; at the end\n|; note\n\t; at the end\n
 --multiline|k = v\n  ; note\n|k = v\n  ; note\n
 --multiline|  ; note\nk = v\n|; note\nk = v\n
+--lone-lines keys|a\n  ; note\nk\n|a\n; note\nk\n
+--lone-lines keys|a\\tb\n|a\\\\tb\n
 |; c\rk=v\n|; c\r\nk=v\n
 |; c\r; d\rk=v\r|; c\r; d\r\nk=v\r
 |; 10%\r20%\n|; 10%\r20%\n

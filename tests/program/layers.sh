@@ -68,7 +68,9 @@ in|k = a\\tb\n|k=a\\tb\n
 --noescape --raw-backslash --policy Nothing in|p=C:\\x\\\nk=v|p=C:\\x\\\nk=v\n
 --indented-comments in|  ; c\nk=1|k=1\n
 --multiline --indented-comments in|k=1\n ; c\n 2\n|k=1\\n2\n
+--inline-comments in|k=1 ; c\n[a];\nx=y|k=1\n\n[a]\nx=y\n
 --lone-lines refused in|k=1\n[a]\nx=y|k=1\n\n[a]\nx=y\n
+--lone-lines keys in|abc\nk=1|abc=\nk=1\n
 --lone-lines runs-on in|abc\nk=1|abc\\nk=1\n
 --crlf in|k=1\n[a]\nx=y|k=1\r\n\r\n[a]\r\nx=y\r\n
 --policy Reserved in|k=a:b|k=a\\:b\n

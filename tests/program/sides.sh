@@ -33,7 +33,7 @@ done <<'ROWS'
 |k=\0303\0251\n|k=e\n|k: \0303\0251 -> e\n
 ROWS
 
-# Worked out by hand. A row is words, three texts, the status, the merged text, and what is told.
+# Worked out by hand. A row is words, three texts, the status, the merged text, and what is reported.
 while IFS='|' read -r words base ours theirs status want err; do
     side base.ini "$base"
     side ours.ini "$ours"
@@ -159,7 +159,7 @@ if has git 'merges of git by ini_file'; then
 host = b
 ; the port
 port = 8080" "$(merged ours theirs)"
-    is 'git is told of a conflict by ini_file' "status 1
+    is 'git hears of a conflict by ini_file' "status 1
 conflict: [server] host: base = a, ours = c, theirs = b
 [log]
 [server]

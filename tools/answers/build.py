@@ -4,8 +4,9 @@
     build.py SOURCE FOLDER [WORD ..]
 
 SOURCE is the folder of the crate's source, with its Cargo.toml: rust-ini 0.21.3 with its default features. FOLDER is made
-where it isn't there. The program is built twice: FOLDER/plain/release/crate_answers is over the crate as it is, and
-FOLDER/brackets/release/crate_answers over the crate with its feature `brackets-in-section-names`; both paths are printed.
+where it isn't there. The program is built four times: FOLDER/plain/release/crate_answers is over the crate as it is,
+FOLDER/brackets/.. over the crate with its feature `brackets-in-section-names`, FOLDER/notes/.. with `inline-comment`, and
+FOLDER/notes_brackets/.. with both; the paths are printed.
 The further words go to `cargo build`, as `--offline` and `--config FILE` where the crate's own dependencies lie in a folder.
 """
 import pathlib
@@ -23,6 +24,7 @@ path = "{program}"
 
 [features]
 brackets = ["rust-ini/brackets-in-section-names"]
+notes = ["rust-ini/inline-comment"]
 
 [dependencies]
 rust-ini = {{ path = "{source}" }}
@@ -38,8 +40,9 @@ def main():
     program = pathlib.Path(__file__).resolve().with_name("crate_answers.rs")
     folder.mkdir(parents=True, exist_ok=True)
     (folder / "Cargo.toml").write_text(MANIFEST.format(program=program, source=source))
-    for name, features in (("plain", []), ("brackets", ["--features", "brackets"])):
-        words = ["cargo", "build", "--release", "--quiet", "--target-dir", str(folder / name), *features, *sys.argv[3:]]
+    for name, features in (("plain", ""), ("brackets", "brackets"), ("notes", "notes"), ("notes_brackets", "notes brackets")):
+        words = ["cargo", "build", "--release", "--quiet", "--target-dir", str(folder / name)]
+        words += ["--features", features, *sys.argv[3:]]
         subprocess.run(words, cwd=folder, check=True)
         print(folder / name / "release/crate_answers")
 

@@ -4,8 +4,11 @@
     compare.py texts ANSWERS CRATE BRACKETS [--written] [--less N] [--random N] [--damaged N] [--seed N]
     compare.py raw ANSWERS [--less N] [--random N] [--damaged N] [--seed N]
     compare.py lone ANSWERS [--less N] [--random N] [--damaged N] [--seed N]
+    compare.py keys ANSWERS [--less N] [--random N] [--damaged N] [--seed N]
     compare.py comments ANSWERS [--less N] [--random N] [--damaged N] [--seed N]
-    compare.py departures ANSWERS CRATE
+    compare.py notes ANSWERS [--less N] [--random N] [--damaged N] [--seed N]
+    compare.py crate-notes ANSWERS NOTES NOTES_BRACKETS [--less N] [--random N] [--damaged N] [--seed N]
+    compare.py departures ANSWERS CRATE [NOTES NOTES_BRACKETS]
     compare.py stored CRATE BRACKETS FOLDER
 
 ANSWERS is the command `ini_replay answers`. CRATE and BRACKETS are the two programs over the Rust crate that build.py makes of
@@ -26,12 +29,17 @@ several texts of one batch give is written once for that batch. What the two loa
 isn't written. With `--less 1` the whole then takes some five minutes.
 
 `raw` loads such texts by the options with raw backslashes, which the crate lacks, and compares with the line grammar, by the
-reader in grammar.py; `lone` does so by those that refuse a line without separator, of both kinds of backslashes, and
-`comments` by those with indented comments, of all of these. They print the smallest texts that are answered otherwise; the
-status is 1 if there is one. The short texts are two characters shorter by default.
+reader in grammar.py; `lone` does so by those that refuse a line without separator, `keys` by those that read it as a key
+alone, both of both kinds of backslashes, `comments` by those with indented comments, of all of these, and `notes` by
+those with inline comments, of all of these again. They print the smallest texts that are answered otherwise; the status is
+1 if there is one. The short texts are two characters shorter by default.
+
+`crate-notes` is as `texts` with inline comments on: NOTES and NOTES_BRACKETS are the programs over the crate with its feature
+`inline-comment`. What the crate does otherwise then is declared in the words of docs/DIFFERENCES.md, which must stand there.
+The short texts are two characters shorter by default, and most of the random ones short.
 
 `departures` shows the smallest text of each declared departure, with what both programs answer, and fails where that is
-not what cases.py says.
+not what cases.py says; those of inline comments where the two programs are named.
 
 `stored` makes the lines of `answers` in the stored run of `ini_replay`, the files `stdin` and `stdout` in FOLDER, anew: the
 texts of cases.py, each under one option set for each answer that it has, and the questions of writing.py. What stands in
@@ -50,27 +58,32 @@ from typing import NamedTuple
 import cases
 import texts
 import writing
-from grammar import DEPARTURES, Option, Reader
+from grammar import DEPARTURES, NOTE_DEPARTURES, Option, Reader
 
+DIFFERENCES = pathlib.Path(__file__).resolve().parents[2] / "docs/DIFFERENCES.md"
 OPTIONS = sorted((Option(*flags) for flags in itertools.product((True, False), repeat=5)), key=Option.changes)
 RAW_OPTIONS = [option._replace(raw=True) for option in OPTIONS]
 LONE_OPTIONS = [option._replace(lone=1) for option in OPTIONS + RAW_OPTIONS]
-COMMENT_OPTIONS = [option._replace(comments=True) for option in OPTIONS + RAW_OPTIONS + LONE_OPTIONS]
+KEY_OPTIONS = [option._replace(lone=2) for option in OPTIONS + RAW_OPTIONS]
+WITHOUT_COMMENTS = OPTIONS + RAW_OPTIONS + LONE_OPTIONS + KEY_OPTIONS
+COMMENT_OPTIONS = [option._replace(comments=True) for option in WITHOUT_COMMENTS]
+NOTE_OPTIONS = [option._replace(notes=True) for option in WITHOUT_COMMENTS + COMMENT_OPTIONS]
 
 
 class Crate(NamedTuple):
-    """The two programs over the Rust crate."""
+    """The two programs over the Rust crate, and the options by which they are asked."""
 
     plain: str
     brackets: str
+    options: list = OPTIONS
 
     def program(self, option):
         return self.brackets if option.brackets else self.plain
 
     def programs(self):
         """Each program with the options by which it reads."""
-        for brackets, program in enumerate(self):
-            yield program, [option for option in OPTIONS if option.brackets == bool(brackets)]
+        for brackets, program in enumerate((self.plain, self.brackets)):
+            yield program, [option for option in self.options if option.brackets == bool(brackets)]
 
 
 def answers(program, questions):
@@ -200,6 +213,26 @@ def compare_texts(arguments):
         "settings files": map(texts.hexadecimal, texts.SETTINGS),
         "damaged settings files": texts.made(texts.damaged_settings, arguments.damaged, arguments.seed),
     }
+    return tell(tally, sorts)
+
+
+def compare_crate_notes(arguments):
+    lacking = [words for words in NOTE_DEPARTURES if words not in DIFFERENCES.read_text()]
+    if lacking:
+        sys.exit(f"DIFFERENCES.md lacks: {'; '.join(lacking)}")
+    options = [option._replace(notes=True) for option in OPTIONS]
+    tally = Tally(arguments.answers, Crate(arguments.crate, arguments.brackets, options), False)
+    sorts = {
+        "short texts": texts.short_texts(arguments.less, texts.NOTE_TEXTS),
+        "short random texts": texts.made(texts.random_line_text, arguments.random, arguments.seed),
+        "random texts": texts.made(texts.random_text, arguments.random // 10, arguments.seed),
+        "damaged settings files": texts.made(texts.damaged_settings, arguments.damaged, arguments.seed),
+    }
+    return tell(tally, sorts)
+
+
+def tell(tally, sorts):
+    """Compares texts by sorts, and prints what is found."""
     for sort, some in sorts.items():
         before = tally.compared
         for batch in texts.batches(some):
@@ -218,9 +251,20 @@ def compare_lone(arguments):
     return compare_lacked(arguments, LONE_OPTIONS, lambda digits: True)
 
 
+def compare_keys(arguments):
+    return compare_lacked(arguments, KEY_OPTIONS, lambda digits: True, texts.SHORT_TEXTS + texts.KEY_TEXTS)
+
+
+def has_mark(digits):
+    return "3b" in digits or "23" in digits
+
+
 def compare_comments(arguments):
-    kinds = texts.SHORT_TEXTS + texts.COMMENT_TEXTS
-    return compare_lacked(arguments, COMMENT_OPTIONS, lambda digits: "3b" in digits or "23" in digits, kinds)
+    return compare_lacked(arguments, COMMENT_OPTIONS, has_mark, texts.SHORT_TEXTS + texts.COMMENT_TEXTS)
+
+
+def compare_notes(arguments):
+    return compare_lacked(arguments, NOTE_OPTIONS, has_mark, texts.NOTE_TEXTS)
 
 
 def compare_lacked(arguments, options, is_telling, kinds=texts.SHORT_TEXTS):
@@ -259,11 +303,14 @@ def one_line(found):
 
 def show_departures(arguments):
     status = 0
-    for departure, option, text, ours, crate in cases.DEPARTURES_SHOWN:
+    shown = [((departure,), *row) for departure, *row in cases.DEPARTURES_SHOWN]
+    shown += cases.NOTE_DEPARTURES_SHOWN if arguments.notes else ()
+    for departures, option, text, ours, crate in shown:
         question = question_of(option, text).encode()
-        found = (one_line(answers(arguments.answers, question)), one_line(answers(arguments.crate, question)))
-        declared = found == (ours, crate) and explained(text, option, ours, crate) == (departure,)
-        print(f"{departure}\n    {option.flags()} {text!r}\n    here   {found[0]}\n    crate  {found[1]}")
+        program = Crate(*arguments.notes).program(option) if option.notes else arguments.crate
+        found = (one_line(answers(arguments.answers, question)), one_line(answers(program, question)))
+        declared = found == (ours, crate) and explained(text, option, ours, crate) == departures
+        print(f"{'; and '.join(departures)}\n    {option.flags()} {text!r}\n    here   {found[0]}\n    crate  {found[1]}")
         if not declared:
             status = 1
             print(f"    but declared:\n    here   {ours}\n    crate  {crate}")
@@ -341,16 +388,24 @@ def main():
     command.add_argument("--written", action="store_true")
     for name, size in (("--less", 0), ("--random", 100_000), ("--damaged", 20_000), ("--seed", 1)):
         command.add_argument(name, type=int, default=size)
-    for lacked, run in (("raw", compare_raw), ("lone", compare_lone), ("comments", compare_comments)):
+    lacking = (("raw", compare_raw), ("lone", compare_lone), ("keys", compare_keys), ("comments", compare_comments))
+    for lacked, run in (*lacking, ("notes", compare_notes)):
         command = commands.add_parser(lacked)
         command.set_defaults(run=run)
         command.add_argument("answers")
         for name, size in (("--less", 2), ("--random", 20_000), ("--damaged", 5_000), ("--seed", 1)):
             command.add_argument(name, type=int, default=size)
+    command = commands.add_parser("crate-notes")
+    command.set_defaults(run=compare_crate_notes)
+    for name in ("answers", "crate", "brackets"):
+        command.add_argument(name)
+    for name, size in (("--less", 2), ("--random", 100_000), ("--damaged", 5_000), ("--seed", 1)):
+        command.add_argument(name, type=int, default=size)
     command = commands.add_parser("departures")
     command.set_defaults(run=show_departures)
     command.add_argument("answers")
     command.add_argument("crate")
+    command.add_argument("notes", nargs="*")
     command = commands.add_parser("stored")
     command.set_defaults(run=store)
     command.add_argument("crate")

@@ -1,7 +1,7 @@
 //! The Rust crate's answers to the questions of `ini_replay answers`, in the same form: see the head of its `answers.rt`.
 //!
-//! The crate reads brackets in names, or doesn't, as it was built; the feature `brackets` says so. A line that asks for the
-//! other, or is no question, ends the program, with its number and status 2.
+//! The crate reads brackets in names, or doesn't, as it was built; the feature `brackets` says so, and `notes` that it reads
+//! inline comments. A line that asks for the other, or is no question, ends the program, with its number and status 2.
 use ini::{EscapePolicy, Ini, LineSeparator, ParseOption, Properties, WriteOption};
 use std::io::{self, BufRead, BufWriter, Write};
 use std::process::ExitCode;
@@ -22,10 +22,15 @@ fn flag(digit: u8) -> Option<bool> {
 }
 
 fn reading_of_flags(flags: &str) -> Option<ParseOption> {
-    let [escape, quote, multiline, indent, brackets] = flags.as_bytes() else {
+    let [escape, quote, multiline, indent, brackets, lacked @ ..] = flags.as_bytes() else {
         return None;
     };
-    if flag(*brackets)? != cfg!(feature = "brackets") {
+    let asked: &[u8] = if cfg!(feature = "notes") {
+        b"0001"
+    } else {
+        b""
+    };
+    if flag(*brackets)? != cfg!(feature = "brackets") || lacked != asked {
         return None;
     }
     Some(ParseOption {

@@ -33,9 +33,31 @@ COMMENT_TEXTS = (
     ("k=v\n ;", ["\n", "\r", " ", "\\", ";", "k", "="], 7),
 )
 
+# And those that tell keys alone apart: what ends a key, a backslash before that, and what follows the line.
+KEY_TEXTS = (
+    ("", ["k", "=", "\\", " ", "\n", "\r", "["], 7),
+    ("k", ["\n", "\r", " ", "\\", ":", ";", "\u00a0"], 7),
+    ("k=v\n", [" ", "\t", "k", "\n", "\r", "=", "["], 7),
+    (" \\x00", ["0", "\\", "\n", " ", "="], 7),
+)
+
+# And those that tell notes apart: what stands before a mark, in values, names and keys, and outside these.
+NOTE_ALPHABET = [" ", "\t", ";", "#", "\\", '"', "'", "\n", "\r", "=", "[", "]", "k"]
+NOTE_TEXTS = (
+    ("", NOTE_ALPHABET, 5),
+    ("k=", [" ", ";", "v", "\\", '"', "\n", "\u00a0"], 7),
+    ("k=v ", [";", " ", "\\", "x", "\n", "\r", "#"], 7),
+    ("k='a' ", ["'", " ", ";", "\t", "\\", "\n"], 7),
+    ("k=v\n ", [" ", ";", "w", "\n", "\r", '"', "\\"], 7),
+    ("[a", ["]", " ", ";", "\\", "\n", "k", "="], 7),
+    ("k", [" ", ";", "\\", "=", "\n", "\t", "#"], 7),
+    ("\x0b", [" ", ";", "\r", "\n", "k", "\u00a0"], 6),
+)
+
 # Pieces of random texts. The first few come oftener.
 PIECES = ["\n", "=", " ", "k", "\r\n", "\n ", "\n\t", "\\", "\\x", "\\x0041", "\\xd800", "\\x+041", "\\n", "\\\n", "\\\r\n"]
 PIECES += ["k=v\n", "k = v\n", "  k=v\n", "[s]\n", " [s]", "; c\n", "# c\n", "\n\n", "\n \n", "\r", '"', "'", '"q" ', "'q'"]
+PIECES += [" ;", "\t# n", "k=v ; n\n", "[s] # n\n", "\\;", "\\ "]
 PIECES += ["\u2028", "\u0085", "\u3000", "\u200b", "\ufeff", "树", "\U0001f431", "\x00", "\x7f", "e\u0301", "=a b", ":c;d"]
 
 GIT = """[core]
@@ -174,6 +196,12 @@ def random_text(rng):
     """A text of some pieces and characters."""
     count = rng.randrange(6, 40)
     return "".join(rng.choice(rng.choice((PIECES, PIECES[:8], ALPHABET))) for _ in range(count))
+
+
+def random_line_text(rng):
+    """A short text of the characters that tell notes apart, mostly within a value or a name."""
+    front = rng.choice(("", "", "k=", "k=v", "k=v\n ", "[a]", " k=v \\\n"))
+    return front + "".join(rng.choices(NOTE_ALPHABET + [":", "x"], k=rng.randrange(1, 15)))
 
 
 def damaged_settings(rng):

@@ -10,7 +10,9 @@ MULTILINE = DEFAULT._replace(multiline=True)
 ESCAPES_OFF = DEFAULT._replace(escape=False)
 RAW_BACKSLASHES = ESCAPES_OFF._replace(raw=True)
 STRICT = DEFAULT._replace(lone=1)
+LONE_KEYS = DEFAULT._replace(lone=2)
 COMMENTS = DEFAULT._replace(comments=True)
+NOTES = DEFAULT._replace(notes=True)
 INDENT = DEFAULT._replace(indent=True)
 BASICS = Writing("Basics", "\n", "=")
 CRLF = Writing("Reserved", "\r\n", " = ")
@@ -144,7 +146,19 @@ RAW_TEXTS = ("path = C:\\temp \n", "path='C:\\temp'\n", "[a]\nj=w", "j=w\\", "pa
 RAW_LINES = ("k=v\\\nj=w", "k\\=v\\", "[a\\]\nk=v\\\r\n[b]", "k=v\\\rj\\=w\n[a\\]", "k='v\\' w \n", "k=v\\ \t\nj\\=w\\ ")
 # Texts with lines without separator, and without, where these are refused.
 STRICT_TEXTS = ("k=v\n[a]\n", "abc\nk=v\n[a]", "[a]\n  k=v\n  abc", "[a]\n\\\nk=v\n  ", "k\\\n=v\n  \n[a]j=w\\\n", "[a] k\rj=w")
-# Texts with indented comments, and with comments behind CR.
+# Texts with keys alone.
+KEY_TEXTS = (
+    "k\n[a]\nk\n",
+    "j=1\n  k \n[a]\tk",
+    "[a]\nj : 1\nk\\\n\n# c\nk\\",
+    "k\r\nj\r\n\r\n[a]\nk\n# c\n",
+    "j=w\nk\n  i\n[a]\nj\n\n  x\nk\n  [b]",
+    "j=w\rk\r\r[a]\n;\nk\r; c\r",
+    "k\\",
+)
+KEY_OPTIONS = (LONE_KEYS, LONE_KEYS._replace(multiline=True), LONE_KEYS._replace(escape=False, comments=True))
+KEY_OPTIONS += (LONE_KEYS._replace(multiline=True, comments=True),)
+# Texts with indented comments, and with comments after CR.
 COMMENT_TEXTS = (
     "[a]\n  ; of k\n  k = v\n\n  ; of j\nj=w\n  # of b\n  [b]",
     "k=v\n  ; c\n\n  w\n\n  # d\n  ; e\nj=w\n[a]\n  ; f\n\n[b]",
@@ -153,6 +167,25 @@ COMMENT_TEXTS = (
     "x=1\nk=v\r; c\r[a]\nk=w\r# d\rj=w\n",
     "[a]\n\n  ; c\r; d\n  junk",
 )
+# Texts with notes, and options and values for them.
+NOTE_TEXTS = (
+    "k = v  ; n\n[a] ; m\n\n  k='v'\t# n\r\n[b] ;o",
+    "k=a\\  ;n\nj=1 ; j\n[a] ; m\r; o\rk=v ;n\r; c\rj=w",
+    "k=a ; m\n b ;n\n \"\" ; o\n\n[a]\tk= ;v #n",
+    "k=a\n ; m\n b\\ ;c \xa0\t;n\n ; o\nj=w\n[a] k=\"\" ;",
+    "k\\ ;v ;n\n[a]\n; c\nk=v ; n\\",
+    "[a]\t \t;m\\\n",
+    "\x0b;n\r; o\r[a];m\n  junk",
+)
+KEY_NOTE_TEXTS = (
+    "j=1\nk ; n\n  i = 2\n[a] k\t#n\r\n",
+    "[a];m\n  k ;n\r; c\r\rj = w\n",
+    "[a]\nk\t; n\\",
+)
+NOTE_OPTIONS = (NOTES, NOTES._replace(multiline=True), NOTES._replace(comments=True, multiline=True))
+NOTE_OPTIONS += (NOTES._replace(escape=False, raw=True, quote=False), NOTES._replace(brackets=True, lone=1))
+KEY_NOTE_OPTIONS = tuple(NOTES._replace(lone=2, **more) for more in ({}, {"multiline": True}, {"brackets": True}))
+NOTED_VALUES = ("", "a ;b", ";b", "a\t#b", "a\\", "'v' \"w\"")
 RAW_VALUES = ["C:\\new", "C:\\new\\", "C:\\new\\\\", "\\\\\\", "'\\'", "it's\\n", "a\\\nb", "a\\\rb", "a\\ ", "\\", "\\\\"]
 VALUES = ["", " v", '"v', "'", "a\tb", "a\nb", "a\\b", "\v", "é", "\U0001f431", "#", "a=b"]
 KEYS = ["", " k", "k ", "[k", ";k", "a=b", "a:b", "\tk", "é", "k\n", "  \tk", "\xa0k"]
@@ -209,12 +242,39 @@ def plain_and_unplain():
             yield Question(call, STRICT, BASICS, name, "k", "n", text)
         yield Question("rename_section", STRICT, BASICS, "a", "", "n", text)
         yield Question("delete_section", STRICT._replace(multiline=True), BASICS, "a", "", "", text)
+    for text, option in itertools.product(KEY_TEXTS, KEY_OPTIONS):
+        for name, call in itertools.product((None, "a"), ("set", "add", "delete", "rename_key")):
+            yield Question(call, option, BASICS, name, "k", "n", text)
+        yield Question("set_existing", option, BASICS, None, "k\\", "n", text)
+        yield Question("add", option, CRLF, "c", "k", "n", text)
+        yield Question("rename_section", option, BASICS, "a", "", "n", text)
+        yield Question("delete_section", option, BASICS, "a", "", "", text)
     for text, option in itertools.product(COMMENT_TEXTS, (COMMENTS, COMMENTS._replace(multiline=True))):
         for name, call in itertools.product((None, "a"), ("set", "add", "delete", "rename_key")):
             yield Question(call, option, BASICS, name, "k", "n", text)
         yield Question("add", option, CRLF, "b", "k", "n", text)
         yield Question("rename_section", option, BASICS, "a", "", "n", text)
         yield Question("delete_section", option, BASICS, "a", "", "", text)
+    noted = itertools.chain(
+        itertools.product(NOTE_TEXTS, NOTE_OPTIONS), itertools.product(KEY_NOTE_TEXTS, KEY_NOTE_OPTIONS)
+    )
+    for text, option in noted:
+        for name, call in itertools.product((None, "a"), ("set", "add", "delete", "rename_key")):
+            yield Question(call, option, BASICS, name, "k", "n", text)
+        yield Question("add", option, CRLF, "b", "k", "n", text)
+        yield Question("rename_section", option, BASICS, "a", "", "n", text)
+        yield Question("delete_section", option, BASICS, "a", "", "", text)
+    for text, value in itertools.product(NOTE_TEXTS[:3] + KEY_NOTE_TEXTS[:1], NOTED_VALUES):
+        for policy in ("Nothing", "Basics", "Reserved"):
+            writing = BASICS._replace(policy=policy)
+            for option in (NOTES, NOTES._replace(quote=False), NOTES._replace(escape=False), KEY_NOTE_OPTIONS[1]):
+                yield Question("set", option, writing, None, "k", value, text)
+    for option in (NOTES, *KEY_NOTE_OPTIONS, NOTES._replace(lone=1, indent=True)):
+        for word in ("a ;b", "a;b", "a \\;b", ";b"):
+            yield Question("rename_key", option, BASICS, None, "k", word, "k=v ; n\n")
+            yield Question("rename_section", option, BASICS, "a", "", word, "[a] ; n\n")
+            yield Question("add", option, BASICS._replace(policy="Reserved"), word, word, word, "k=v ; n")
+            yield Question("add", option, BASICS, word, word, word, "k=v ; n")
     for value in RAW_VALUES:
         yield Question("set", ESCAPES_OFF._replace(multiline=True, quote=False), raw, None, "path", value, "path=1 \n  2\n\n")
         yield Question("set", DEFAULT, raw, None, "path", value, "path=1\n")

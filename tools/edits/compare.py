@@ -31,12 +31,12 @@ SECTION_CALLS = ["delete_section", "rename_section"]
 PIECES = ["\n", "\n", "\n", "\r", "\r\n", " ", "\t", "=", ":", "a", "k", "[a]", "[b]", "[a]\n", "k=", "a=v", "k=v\n", "\nk = w"]
 PIECES += ["\n k=v", "=v"]
 PIECES += ["\n ", "\n\n", "\n  ", "\r\n  w", '"', "'", "\"q\"", "\\", "\\\n", "\\n", "\\x", "\\x0041", "#", "\n#c\n", ";", "\x0b"]
-PIECES += ["\xa0", "]", "[", "x", "\n ;c\n"]
+PIECES += ["\xa0", "]", "[", "x", "\n ;c\n", "\nk\n", "\n j\n", " ;n", "\t#", "k=v ;n\n", "\\ "]
 IN_QUOTES = ["v", "w w", " ", "\n", "\r\n ", '"', "'", "\\", "\\\\", '\\"', "\\'", "\\\n", "\\x0041", "=", "#", '""', "'v'"]
 VALUES = ["v", "w", "", "a b", "it's", 'a"b', '"q', "'", "é", " x", "a=b", "#", "a\\b", "l\nm", "\U0001f431", "\t", "]", "\x0b"]
-VALUES += ["a\\", "a\\\\", "\\\\\\", "\\'", "\\\n", "a\\\r", "\\ "]
-KEYS = ["k", "a", "x", "", " k", "\tk", "k ", "a=b", ";k", "[k", "é", "k\n", "\xa0k", "  \U0001f431"]
-NAMES = ["d", " a", "a]", "é", "\t", "[a]"]
+VALUES += ["a\\", "a\\\\", "\\\\\\", "\\'", "\\\n", "a\\\r", "\\ ", "a ;b", "a\t# b", ";b"]
+KEYS = ["k", "a", "x", "", " k", "\tk", "k ", "a=b", ";k", "[k", "é", "k\n", "\xa0k", "  \U0001f431", "k ;a"]
+NAMES = ["d", " a", "a]", "é", "\t", "[a]", "a ;b"]
 SEPARATORS = ["=", ":", " = ", ":\t"]
 UNPLAIN_SEPARATORS = ["", " =="]
 
@@ -65,11 +65,17 @@ def quoted_pair(chance):
 FRONTS = {
     "rename_key": ["k=v\n", "[a]\n  k\t= 'v'\n", "\tk =v\n", "[a]k\n = v", "[b] [a] \xa0k\\ :v\r\n"],
     "delete_section": ["[a]\nk=v\n", "  [a] ", "[b] [a]k=v\n", "[ a ]\n# c\n", "k=1\n[a]\r\nk=v\n\n", "[a]\nk=v\n#c\n  "],
-    "rename_section": ["[a]\nk=v\n", "  [\ta ] ", "[b] [a]k=v\n", "[a]] \t\n", "[\\x0061]", "[a\\\n] "],
+    "rename_section": ["[a]\nk=v\n", "  [\ta ] ", "[b] [a]k=v\n", "[a]] \t\n", "[\\x0061]", "[a\\\n] ", "[a]\t ;n\n"],
 }
 # Values as a text spells them, and what they are.
 SPELLED = [("\\\\ ", "\\"), ("\\x0041b", "Ab"), ("'v' w", "v w"), ('"it\'s"', "it's"), ("v\n w", "v\nw")]
 SPELLED += [("a\\\nb", "ab"), ("\\;", ";")]
+
+
+def random_option(chance, chances):
+    """Options that are on by these chances; what becomes of a line without separator comes before the last two."""
+    *first, comments, notes = (chance.random() < likely for likely in chances)
+    return Option(*first, lone=chance.choice((0, 0, 1, 2, 2)), comments=comments, notes=notes)
 
 
 def random_question(chance):
@@ -77,7 +83,7 @@ def random_question(chance):
     text = "".join(chance.choices(PIECES, k=chance.randrange(14)))
     if chance.random() < 0.3:
         text = quoted_pair(chance) + text
-    option = Option(*(chance.random() < p for p in (0.5, 0.5, 0.5, 0.5, 0.5, 0.3, 0.3, 0.4)))
+    option = random_option(chance, (0.5, 0.5, 0.5, 0.5, 0.5, 0.3, 0.4, 0.5))
     separator = chance.choice(SEPARATORS if chance.random() < 0.95 else UNPLAIN_SEPARATORS)
     writing = Writing(chance.choice(POLICIES), chance.choice(["\n", "\r\n"]), separator)
     name = chance.choice([None, None, "a", "a", "b", "c", "", chance.choice(NAMES)])
@@ -88,7 +94,7 @@ def random_question(chance):
         text = chance.choice(FRONTS[call]) + text
     elif call.startswith("set") and chance.random() < 0.2:
         spelled, value = chance.choice(SPELLED)
-        name, key, text = None, "k", "k = " + spelled + chance.choice(["\n", " \r\n", "\n\nk=2\n"]) + text
+        name, key, text = None, "k", "k = " + spelled + chance.choice(["\n", " \r\n", "\n\nk=2\n", "\t;n\n"]) + text
     if call == "rename_key":
         value = chance.choice(["v", chance.choice(KEYS)])
     elif call in SECTION_CALLS:
@@ -176,7 +182,7 @@ def carried(program):
 
 
 def stored(folder):
-    """Puts the edits into the stored run, behind the lines that ask something else."""
+    """Puts the edits into the stored run, after the lines that ask something else."""
     questions = list(cases.questions())
     lines = [(f"edits {line_of(question)}\n", f"{answer(question)}\n") for question in questions]
     lines += [(f"edits {line}\n", "no question\n") for line in cases.NO_QUESTIONS]

@@ -15,7 +15,7 @@ import shlex
 import subprocess
 import sys
 
-from compare import SEPARATORS, UNPLAIN_SEPARATORS, VALUES
+from compare import SEPARATORS, UNPLAIN_SEPARATORS, VALUES, random_option
 from model import POLICIES, Option, Refused, Writing
 from pieces_compare import LINES, digits, name_word
 from pieces_model import Edit, Page, edited
@@ -72,14 +72,14 @@ def line_of(option, writing, side, texts):
     return " ".join([option.flags(), writing.policy, end, digits(writing.separator), side] + [digits(text) for text in texts])
 
 
-def changed(chance, lines):
+def changed(chance, lines, more):
     """The lines with some taken out, put in, moved or exchanged."""
     lines = list(lines)
     for _ in range(chance.choice([0, 1, 1, 2, 3, 5])):
         place = chance.randrange(len(lines) + 1)
         step = chance.random()
         if step < 0.45 or not lines:
-            lines.insert(place, chance.choice(MORE if chance.random() < 0.7 else LINES))
+            lines.insert(place, chance.choice(more if chance.random() < 0.7 else LINES))
         elif step < 0.7:
             del lines[place % len(lines)]
         elif step < 0.85:
@@ -97,13 +97,21 @@ def is_read(text, option):
     return True
 
 
+def empties_early(texts, option):
+    """Whether ours empties a value before its last change: in pieces that were edited, what stood after the value has no part in
+    how a later pair looks, and in a text that is read anew it has."""
+    base, ours = (settings(text, option) for text in texts[:2])
+    return any(ours.get(place) == "" for place in changes(base, ours)[:-1])
+
+
 def random_question(chance):
     """Three texts that the options read."""
     while True:
-        option = Option(*(chance.random() < p for p in (0.8, 0.8, 0.3, 0.1, 0.1, 0.4, 0.3, 0.3)))
-        base = [chance.choice(MORE if chance.random() < 0.7 else LINES) for _ in range(chance.randrange(9))]
-        texts = ["".join(base), "".join(changed(chance, base)), "".join(changed(chance, base))]
-        if not all(is_read(text, option) for text in texts):
+        option = random_option(chance, (0.8, 0.8, 0.3, 0.1, 0.1, 0.4, 0.3, 0.3))
+        more = MORE + ["k\n", "j\n", "  i\n"] * (option.lone == 2) + ["k=v ;n\n", "j = 2\t#n\n"] * option.notes
+        base = [chance.choice(more if chance.random() < 0.7 else LINES) for _ in range(chance.randrange(9))]
+        texts = ["".join(base), "".join(changed(chance, base, more)), "".join(changed(chance, base, more))]
+        if not all(is_read(text, option) for text in texts) or empties_early(texts, option):
             continue
         separator = chance.choice(UNPLAIN_SEPARATORS if chance.random() < 0.03 else SEPARATORS)
         writing = Writing(chance.choice(POLICIES), chance.choice(["\n", "\r\n"]), separator)

@@ -23,16 +23,17 @@ class Option(NamedTuple):
     indent: bool
     brackets: bool
     raw: bool = False
-    lone: int = 0  # of a line without separator: 0 its key runs on, 1 the text is refused
+    lone: int = 0  # of a line without separator: 0 its key runs on, 1 the text is refused, 2 the key has the empty value
     comments: bool = False  # where a line starts, blanks and a comment mark begin a comment
+    notes: bool = False  # after a blank in a value, or at an item's place, a comment mark begins a note
 
     def flags(self):
-        """A digit for each, as questions have them; the last three only as far as they aren't 0."""
+        """A digit for each, as questions have them; the last four only as far as they aren't 0."""
         digits = "".join(str(int(flag)) for flag in self)
         return digits[:5] + digits[5:].rstrip("0")
 
     def has_special_backslash(self):
-        """Whether a backslash takes the character behind it along."""
+        """Whether a backslash takes the character after it along."""
         return self.escape or not self.raw
 
 
@@ -70,11 +71,12 @@ class Stop(Exception):
 @dataclass
 class Element:
     """A gap, a comment, a note, a header, a pair or a dropped tail, from `start` to `end`. A header's `text` is its name, a
-    pair's its key. A note is an indented comment, or one behind CR: its line end is a gap.
+    pair's its key. A note is an indented comment, or one outside column one: its line end is a gap.
 
-    A pair's key ends at `key_end`, its own value stands from `lead` to `pad`, and `part` is where its first quoted part ends,
-    if it begins with one. A header or a pair is open where it takes no line end behind its last line: a pair does with
-    multiline values, but at the text's end.
+    A pair's key ends at `key_end`, its own value stands from `lead` to `pad`, and `part` is where its first quoted
+    part ends, if it begins with one. The line in which the value ends has its note at `note`, if it has one.
+    A pair that no separator follows is alone, and ends with its key. A header or a pair is open where it takes no line
+    end after its last line: a pair with a separator does with multiline values, but at the text's end.
     """
 
     kind: str
@@ -85,8 +87,10 @@ class Element:
     lead: int = 0
     pad: int = 0
     value: str = ""
+    note: Optional[tuple[int, int]] = None
     part: Optional[int] = None
     is_open: bool = False
+    is_alone: bool = False
 
 
 # Reading. A front is what stands before a place.
@@ -127,13 +131,18 @@ class Reader:
         self.at += 1
         return self.text[self.at - 1]
 
-    def takes_note(self):
-        """Whether a note stands here where one may: a mark, and what follows it up to a line end. It is taken."""
-        if not (self.option.comments and self.sees(MARKS)):
+    def takes_note(self, may_stand):
+        """Whether a note stands here, where one may: a mark and what follows up to a line end. It is taken."""
+        if not (may_stand and self.sees(MARKS)):
             return False
         while self.at < len(self.text) and not self.sees(LINE_ENDS):
             self.at += 1
         return True
+
+    def own_note(self):
+        """Where a note stands that begins here, if one does. It is taken."""
+        start = self.at
+        return (start, self.at) if self.takes_note(True) else None
 
     def take_line_end(self):
         """LF, CR LF or CR, if one stands here."""
@@ -168,10 +177,16 @@ class Reader:
             raise Stop("UnknownCharacter", self.at)
         return chr(number)
 
-    def string(self, endpoints, may_end=False):
-        """What a string gives, and where its last piece ends that is not a white character by itself."""
-        given, solid = "", self.at
+    def string(self, endpoints, may_end=False, before_notes=False):
+        """What a string gives, and where its last piece ends that is not a white character by itself.
+
+        Before notes, a mark that a blank stands before ends it too, where notes are read.
+        """
+        given, solid, start = "", self.at, None
         while not self.sees(endpoints) and not (may_end and self.at == len(self.text)):
+            follows_blank = start is not None and self.text[start] in BLANKS
+            if before_notes and self.option.notes and follows_blank and self.sees(MARKS):
+                break
             start = self.at
             given += self.piece()
             if self.text[start] not in WHITE:
@@ -179,28 +194,29 @@ class Reader:
         return given, solid
 
     def line(self, is_first):
-        """A value's line, to its end: what it gives, and where white space at its end begins.
+        """A value's line, up to its note or its end: what it gives, and where white space at its end begins.
 
         White space that a backslash stands before is the value's own, but where backslashes take nothing along.
         """
         self.skip(INLINE_WHITE)
-        quoted, behind, self.parts = "", self.at, []
+        quoted, after, self.parts = "", self.at, []
         while self.option.quote and self.sees("\"'"):
             quoted += self.string(self.take())[0]
             self.at += 1
             self.parts.append(self.at)
-            behind = self.at
-        plain, solid = self.string(LINE_ENDS, may_end=True)
+            after = self.at
+        plain, solid = self.string(LINE_ENDS, may_end=True, before_notes=True)
         plain = plain.strip(WHITE) if is_first and not self.parts else plain.rstrip(WHITE)
-        own = self.text[behind : self.at].rstrip(INLINE_WHITE)
+        own = self.text[after : self.at].rstrip(INLINE_WHITE)
         keeps = own.endswith("\\") and self.option.has_special_backslash()
-        return quoted + plain, self.at if keeps else max(solid, behind)
+        return quoted + plain, self.at if keeps else max(solid, after)
 
     def value(self, pair):
         """Reads a value."""
         self.skip(INLINE_WHITE)
         pair.lead = self.at
         pair.value, pair.pad = self.line(True)
+        pair.note = self.own_note()
         pair.part = self.parts[0] if self.parts else None
         pair.is_open = not (self.option.multiline and self.take_line_end())
         if not pair.is_open:
@@ -217,11 +233,12 @@ class Reader:
                 pair.value += "\n"
                 continue
             self.skip(INLINE_WHITE)
-            if not self.takes_note():
+            if not self.takes_note(self.option.comments):
                 given, pad = self.line(False)
+                note = self.own_note()
                 pair.value += "\n" + given
                 if given.strip("\n"):
-                    pair.pad = pad
+                    pair.pad, pair.note = pad, note
             if not self.take_line_end():
                 pair.is_open = True
                 return
@@ -229,21 +246,27 @@ class Reader:
     def pair(self, element, is_indented):
         key_start = self.at
         try:
-            key = self.string("=:" + (LINE_ENDS if self.option.lone else ""))[0]
+            if self.option.lone:
+                key = self.string("=:" + LINE_ENDS, may_end=self.option.lone == 2, before_notes=True)[0]
+            else:
+                key = self.string("=:")[0]
         except Stop as stop:
             if self.option.lone or not is_indented or stop.kind != "EndOfText":
                 raise
             element.kind, self.at = "dropped", len(self.text)
             return
-        if self.sees(LINE_ENDS):
+        if self.option.lone == 1 and self.sees(LINE_ENDS + MARKS):
             raise Stop("NoSeparator", self.at + 1)
         indented = (self.text[element.start : key_start] + key).rstrip(WHITE)
         element.kind, element.text = "pair", indented if self.option.indent else key.strip(WHITE)
-        element.key_end = self.at
-        self.at += 1
+        element.key_end = element.lead = element.pad = self.at
+        element.is_alone = element.is_open = not self.sees("=:")
         if not element.text:
+            self.take()
             raise Stop("MissingKey", self.at)
-        self.value(element)
+        if not element.is_alone:
+            self.at += 1
+            self.value(element)
 
     def header(self):
         self.at += 1
@@ -251,7 +274,7 @@ class Reader:
             name = self.string("]")[0]
             self.at += 1
             return name.strip(WHITE)
-        name = self.string(LINE_ENDS)[0].rstrip(BLANKS)
+        name = self.string(LINE_ENDS, before_notes=True)[0].rstrip(BLANKS)
         if not name.endswith("]"):
             raise Stop("HeaderEnd", self.at + 1)
         return name[:-1].strip(WHITE)
@@ -263,7 +286,7 @@ class Reader:
             self.skip(BLANKS)
             if self.sees(LINE_ENDS):
                 self.at += 1
-            elif self.takes_note():
+            elif self.takes_note(self.option.comments):
                 element.kind = "note"
             elif self.at < len(self.text) and not self.sees("["):
                 self.pair(element, True)
@@ -272,7 +295,7 @@ class Reader:
         elif self.sees(MARKS):
             if is_column_one(self.text[:start][-1:]):
                 element.kind, self.at = "comment", self.text.find("\n", start) + 1 or len(self.text)
-            elif starts_line(self.text[:start][-1:]) and self.takes_note():
+            elif self.takes_note(self.option.notes or self.option.comments and self.text[start - 1] == "\r"):
                 element.kind = "note"
             else:
                 raise Stop("InlineComment", start + 1)
@@ -328,7 +351,16 @@ def is_read_back(text, policy, option):
     return by_escapes or not (escapes or any(c in alone for c in text))
 
 
+def has_no_note(text, policy, option):
+    """Whether no mark that isn't escaped stands after a blank that isn't, where notes are read."""
+    pairs = zip(text, text[1:])
+    bare = [two for two in pairs if not any(is_escaped(policy, c) for c in two)]
+    return not (option.notes and any(blank in BLANKS and mark in MARKS for blank, mark in bare))
+
+
 def is_plain_unspaced_key(key, policy, option):
+    if option.lone and not has_no_note(key, policy, option):
+        return False
     if not key or key[0] == "[" or (key[0] in ";#" and not is_escaped(policy, key[0])):
         return False
     trimmed = key.rstrip(WHITE) if option.indent and is_escaped(policy, key[0]) else key.strip(WHITE)
@@ -342,8 +374,8 @@ def is_plain_key(key, policy, option):
 
 
 def is_plain_name(name, policy, option):
-    has_bracket = "]" in name and not option.brackets
-    return name == name.strip(WHITE) and not has_bracket and is_read_back(name, policy, option)
+    is_whole = has_no_note(name, policy, option) if option.brackets else "]" not in name
+    return name == name.strip(WHITE) and is_whole and is_read_back(name, policy, option)
 
 
 def is_plain_separator(separator):

@@ -15,7 +15,7 @@ import shlex
 import subprocess
 import sys
 
-from compare import KEYS, NAMES, PIECES, SEPARATORS, UNPLAIN_SEPARATORS, VALUES
+from compare import KEYS, NAMES, PIECES, SEPARATORS, UNPLAIN_SEPARATORS, VALUES, random_option
 from model import POLICIES, Option, Refused, Writing
 from pieces_model import Edit, Page, answer
 
@@ -27,6 +27,12 @@ LINES += ["# c\n", "; of k\n", "#\n", "# c", "#c\r  x\n", "\n", "\n", "\r\n", " 
 LINES += ["[a]\n", "[b]\n", "  [a]\n", "[a]", "[a] [b]\n", "[ a ]\n", "[a]k=v\n", "[b]\r", "[a]\r\n", "  [b]"]
 LINES += ["  ; i\n", "\t#n\r\n", " ;x\r", "; r", " \xa0; c\n", "k=v\n ; c\n", "k=v\n ; c\n  w\n", "k=\n\n ; c\n\n"]
 LINES += ["k=v\n  w\n", "k=v\n\n\n", "k=v\n  \"\"\n", "k=v\n \\\n\n", "  junk", "  #junk\n x", "  more\n", "\\\n", "k=\n\n  v\n \n"]
+# Notes, which mostly only these options read.
+NOTED = ["k=v ; n\n", "j = 1\t# n\r\n", "k='v' ;\n", "k=1 ;n", "k=a\\ \t;n\n", "k=v ;n\r", "[a] ; n\n", "[b];n\n", "[a]\t #n\r"]
+NOTED += ["\r; n\r", "\x0b;n\n", "k=v ;m\n w ;n\n", "k=v ;n\n ;m\n", "k=v ;n\n \"\" ;m\n", "  k = v \xa0 ;n\n", "k= ;v ;n\n"]
+# Keys alone, which mostly only these options read.
+ALONE = ["k\n", "k\n", "j\r\n", "  k\n", " j \t\n", "k\r", "k\\\n", "j\\", "k", "  ;k\n", "j\\\\\n", "k\n\n", "k\n  \n"]
+ALONE += ["k ; n\n", "j\t#n", " k ;n\r\n"]
 COMMENTS = ["# c\n", "; a\n# b\n", "", "#", "# c\r\n", "#a\r  b\n", "no", "# a\nb", " # a", "\n", "# a\n\n"]
 
 
@@ -49,8 +55,12 @@ def line_of(option, writing, text, edits):
     return " ".join(words + [word_of(edit) for edit in edits])
 
 
-def random_text(chance):
+def random_text(chance, option):
     pieces = LINES if chance.random() < 0.8 else PIECES
+    if option.notes:
+        pieces = pieces + NOTED
+    if option.lone == 2:
+        pieces = pieces + 2 * ALONE
     return "".join(chance.choices(pieces, k=chance.randrange(9)))
 
 
@@ -82,8 +92,8 @@ def random_edit(chance, page, in_row):
 def random_question(chance):
     """A text that the options read, and one edit, several, or a hundred in a row."""
     while True:
-        option = Option(*(chance.random() < p for p in (0.8, 0.8, 0.5, 0.2, 0.1, 0.4, 0.3, 0.4)))
-        text = random_text(chance)
+        option = random_option(chance, (0.8, 0.8, 0.5, 0.2, 0.1, 0.4, 0.4, 0.5))
+        text = random_text(chance, option)
         try:
             page = Page(text, option)
         except Refused:

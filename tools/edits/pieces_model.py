@@ -72,16 +72,31 @@ class Page:
         return [pair for pair in pairs if key is None or pair.text == key]
 
     def is_idle(self, line):
-        """Whether a line behind a value is blank, or an indented comment."""
-        behind = line.lstrip(BLANKS)
-        return not behind or (self.option.comments and behind[0] in MARKS)
+        """Whether a line after a value is blank, or an indented comment."""
+        after = line.lstrip(BLANKS)
+        return not after or (self.option.comments and after[0] in MARKS)
+
+    def end_of(self, pair):
+        """Where a pair ends: a key alone with the note after it."""
+        notes = [element.end for element in self.elements if element.kind == "note" and element.start == pair.end]
+        return notes[0] if notes and pair.is_alone else pair.end
+
+    def note_after(self, pair):
+        """A pair's note, and what stands between value and note: a space, where nothing does that a note may follow."""
+        if pair.is_alone:
+            note = self.text[pair.end : self.end_of(pair)]
+            return " " + note if note else ""
+        if pair.note is None:
+            return ""
+        return (self.text[pair.pad : pair.note[0]] or " ") + self.text[slice(*pair.note)]
 
     def line_end_of(self, pair):
         """Where the line end stands after the last line of a pair that isn't idle; None where the text ends before one."""
         text = self.text
-        if not self.option.multiline:
-            found = line_end_at(text, pair.end)
-            return (pair.end, pair.end + len(found)) if found else None
+        if not self.option.multiline or pair.is_alone:
+            end = self.end_of(pair)
+            found = line_end_at(text, end)
+            return (end, end + len(found)) if found else None
         ends = [end for end in self.reader.line_ends if pair.lead <= end[0] and end[1] <= pair.end]
         last = None
         for number, end in enumerate(ends):
@@ -89,6 +104,10 @@ class Page:
             if number == 0 or not self.is_idle(text[start : end[0]]):
                 last = end
         return last if ends and self.is_idle(text[ends[-1][1] : pair.end]) else None
+
+    def would_take(self, place):
+        """Whether a multiline value would take what stands at a place after a key alone."""
+        return self.option.multiline and self.text[place : place + 1] in tuple(BLANKS + LINE_ENDS)
 
     def element_before(self, place):
         """The last element that ends at a place."""
@@ -146,16 +165,31 @@ def reads_back(source, value, option):
     return alone and page.document() == [(None, [("k", value)])]
 
 
-def form(quotes, value, policy, option):
+def reads_back_before(note, source, value, option):
+    """Whether the source is read as the value before a note too, with what stands before that, if there is one."""
+    if not note:
+        return True
+    try:
+        page = Page(f"k={source}{note}\n", option)
+    except Refused:
+        return False
+    mark = len(f"k={source}{note}") - len(note.lstrip(INLINE_WHITE))
+    return page.elements[0].note == (mark, len(page.text) - 1) and page.document() == [(None, [("k", value)])]
+
+
+def form(quotes, value, policy, option, note=""):
     bare = escaped(policy, value)
     for quote in quotes + ["", '"', "'"]:
-        if reads_back(quote + bare + quote, value, option):
-            return quote + bare + quote
+        source = quote + bare + quote
+        if reads_back(source, value, option) and reads_back_before(note, source, value, option):
+            return source
     raise Refused("Value")
 
 
-def own_quotes(page, pair):
-    return [page.text[pair.lead]] if pair.part is not None and pair.part == pair.pad else []
+def own_quotes(page, pair, value):
+    """The mark of the quotes in which the pair's value stands, where the new value doesn't have it."""
+    stands_in_quotes = pair.part is not None and pair.part == pair.pad
+    return [page.text[pair.lead]] if stands_in_quotes and page.text[pair.lead] not in value else []
 
 
 def line_end_of(page, writing):
@@ -169,16 +203,16 @@ def style_of(page, pair):
     source = page.text[pair.start : pair.key_end]
     indent = "" if page.option.indent else source[: len(source) - len(source.lstrip(BLANKS))]
     pad = source[len(source.rstrip(BLANKS)) :]
-    behind = page.text[pair.key_end + 1 : pair.lead]
-    return indent, pad + page.text[pair.key_end] + behind[: len(behind) - len(behind.lstrip(BLANKS))]
+    after = page.text[pair.key_end + 1 : pair.lead]
+    return indent, pad + page.text[pair.key_end] + after[: len(after) - len(after.lstrip(BLANKS))]
 
 
 def style(page, writing, before):
-    """What indents a new pair, and its separator: of the last of these pairs that begins a line, else of the text's, else as
-    the options say."""
+    """What indents a new pair, and its separator: of the last of these pairs that begins a line and isn't alone, else of the
+    text's, else as the options say."""
     everywhere = [element for element in page.elements if element.kind == "pair"]
     for pairs in (before, everywhere):
-        begin = [pair for pair in pairs if starts_line(page.text[: pair.start])]
+        begin = [pair for pair in pairs if not pair.is_alone and starts_line(page.text[: pair.start])]
         if begin:
             return style_of(page, begin[-1])
     return "", writing.separator
@@ -216,12 +250,14 @@ def after_pair(page, writing, pair, before, key, value):
     line = pair_text(page, writing, before, key, value, not page.option.multiline)
     end = page.line_end_of(pair)
     if end:
-        # a comment behind CR goes up to its line's end, and one in column one through the next LF
-        if page.option.comments and page.text[slice(*end)] == "\r":
+        if pair.is_alone and page.would_take(end[1]):
+            return page.text[: end[1]] + line + ";" + line_end_of(page, writing) + page.text[end[1] :]
+        # a comment after CR goes up to its line's end, and one in column one through the next LF
+        if (page.option.comments or page.option.notes) and page.text[slice(*end)] == "\r":
             line = with_line_end(line, "\r")
         return page.text[: end[1]] + line + page.text[end[1] :]
-    glue = closing(page, pair.end) + line_end_of(page, writing)
-    return page.text[: pair.end] + glue + line + page.text[pair.end :]
+    place = page.end_of(pair)
+    return page.text[:place] + closing(page, place) + line_end_of(page, writing) + line + page.text[place:]
 
 
 def with_pair(page, number, at, key, value):
@@ -302,15 +338,38 @@ def add(page, writing, edit):
 
 
 def set_nth(page, writing, edit, number):
-    source = form([], edit.value, writing.policy, page.option)
+    form([], edit.value, writing.policy, page.option)
     pairs = page.pairs(edit.name, edit.key)
     if number >= len(pairs):
         return None
     pair = pairs[number]
     if pair.value == edit.value:
         return page.text
-    source = form(own_quotes(page, pair), edit.value, writing.policy, page.option)
-    return page.text[: pair.lead] + source + page.text[pair.pad :]
+    note = page.note_after(pair)
+    if pair.is_alone:
+        return set_alone(page, pair, form([], edit.value, writing.policy, page.option, note), note)
+    end = pair.note[1] if pair.note else pair.pad
+    try:
+        source = form(own_quotes(page, pair, edit.value), edit.value, writing.policy, page.option, note)
+    except Refused:
+        # nothing keeps a note from being read as the value, so it goes
+        source = form(own_quotes(page, pair, edit.value), edit.value, writing.policy, page.option)
+        note = page.text[pair.pad : pair.note[0]]
+    return page.text[: pair.lead] + source + note + page.text[end:]
+
+
+def in_column_one(front):
+    return front if is_column_one(front) else front + "\n"
+
+
+def set_alone(page, pair, source, note):
+    """The text with a separator and a value after a key alone."""
+    front = page.text[: pair.end] + closing(page, pair.end) + "=" + source + note
+    own_end = page.end_of(pair)
+    end = own_end + len(line_end_at(page.text, own_end))
+    if not page.would_take(end):
+        return front + page.text[own_end:]
+    return in_column_one(front + page.text[own_end:end]) + ";\n" + page.text[end:]
 
 
 def delete_nth(page, name, key, number):
@@ -320,7 +379,10 @@ def delete_nth(page, name, key, number):
     pair, text = pairs[number], page.text
     front, end = text[: pair.start], page.line_end_of(pair)
     if end is None:
-        return front + text[pair.end :]
+        return front + text[page.end_of(pair) :]
+    above = page.element_before(pair.start)
+    if pair.is_alone and page.would_take(end[1]) and above and above.kind == "pair":
+        return in_column_one(front) + ";\n" + text[end[1] :]
     follows_mark = text[end[1] : end[1] + 1] in tuple(MARKS)
     stays_alike = is_column_one(front) == is_column_one(text[: end[1]])
     if starts_line(front) and (stays_alike or not follows_mark):
@@ -381,7 +443,7 @@ def rename_key(page, writing, edit):
         raise Refused("Key")
     for pair in page.pairs(edit.name, edit.key)[:1]:
         source = page.text[pair.start : pair.key_end]
-        # where keys end with their line, a line end stands behind a backslash, and is the key's
+        # where keys end with their line, a line end stands after a backslash, and is the key's
         white = INLINE_WHITE if option.lone else WHITE
         own = (source if option.indent else source.lstrip(WHITE)).rstrip(white)
         start = pair.start + source.index(own)
@@ -399,11 +461,11 @@ def delete_section(page, name):
     if end < len(page.elements):
         stays = page.comments_above(page.indentation(page.elements[end].start))
         rest = text[stays : page.elements[end].start]
-        behind = text[page.elements[end].start :]
+        after = text[page.elements[end].start :]
     else:
         dropped = [element.start for element in page.elements[start:] if element.kind == "dropped"]
         stays = dropped[0] if dropped else len(text)
-        rest, behind = text[stays:], ""
+        rest, after = text[stays:], ""
     goes = starts_line(front) and (is_column_one(front) or rest[:1] not in tuple(MARKS))
     if not goes:
         section = text[header:stays]
@@ -411,7 +473,7 @@ def delete_section(page, name):
     above = page.element_before(page.indentation(header))
     if page.option.multiline and goes and above and above.kind == "pair" and rest[:1] in tuple(BLANKS):
         rest = ""
-    return front + rest + behind
+    return front + rest + after
 
 
 def rename_section(page, writing, edit):
@@ -420,8 +482,12 @@ def rename_section(page, writing, edit):
     bounds = page.bounds(edit.name)
     if bounds is None:
         return None
-    header = page.elements[bounds[0]]
-    return page.text[: header.start] + "[" + escaped(writing.policy, edit.other) + "]" + page.text[header.end :]
+    header, text = page.elements[bounds[0]], page.text
+    # blanks before a note stay
+    end = header.end
+    while page.option.brackets and text[header.end : header.end + 1] in tuple(MARKS) and text[end - 1] in BLANKS:
+        end -= 1
+    return text[: header.start] + "[" + escaped(writing.policy, edit.other) + "]" + text[end:]
 
 
 def add_section(page, writing, edit):
@@ -463,7 +529,7 @@ def comment_out(page, edit):
     if not pairs:
         return None
     pair, text = pairs[0], page.text
-    end = page.line_end_of(pair) or (pair.end, pair.end)
+    end = page.line_end_of(pair) or (page.end_of(pair),) * 2
     if not is_column_one(text[: pair.start]) or text[slice(*end)] == "\r":
         raise Refused("NoPlace")
     source = text[pair.start : end[0]]

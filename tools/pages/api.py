@@ -3,10 +3,11 @@
 
     tools/pages/api.py > docs/API.md
 
-Each public function, method and constant has a line: its signature, the names of what it ensures, and the first sentence of
-its doc comment; each public field and variant has one too. A type or a function is public where its crate's lib.rt hands it
-out by `pub use`, or where it stands in a module that is `pub mod`. It reads the layout that `rt fmt` writes, and ends with status 1 and a line on standard error where it meets something that it does not
-know, such as a public function without a doc comment, or a name that is handed out and found nowhere.
+Each public function, method and constant has a line: its signature, the names of what it ensures, and the first sentence
+of its doc comment; each public field and variant has one too, and each `From`. A type or a function is public where its
+crate's lib.rt hands it out by `pub use`, or where it stands in a module that is `pub mod`. It reads the layout that `rt fmt`
+writes, and ends with status 1 and a line on standard error where it meets something that it does not know, such as a public
+function without a doc comment, or a name that is handed out and found nowhere.
 """
 import re
 import sys
@@ -16,6 +17,9 @@ TOP = Path(__file__).resolve().parents[2]
 CRATES = ("ini", "ini_view", "ini_text", "ini_multimap", "ini_layers", "ini_dialect", "ini_edit", "ini_check")
 FUNCTION = re.compile(r"(pub )?(?:const |unsafe )*fn (\w+)")
 CONSTANT = re.compile(r"pub (const (\w+): [^=]+?) =")
+# a conversion into a type, and another crate's name under one of the file's own
+CONVERSION = re.compile(r"impl(?:<.*?>)? From<(\w+)> for ([\w:]+)(?:<.*>)? \{\}?")
+RENAMED = re.compile(r"^use ([\w:]+) as (\w+);", re.M)
 ITEM = re.compile(r"pub (struct|enum|trait|type|fn|const fn) (\w+)")
 # what may follow a signature
 AFTER = re.compile(r"\s*(requires|ensures|decreases|where|\{|;|$)")
@@ -38,7 +42,10 @@ def sources(crate):
     for path in sorted(folder.rglob("*.rt")):
         short = path.relative_to(folder)
         if "tests" not in short.with_suffix("").parts:
-            found[str(short)] = path.read_text(encoding="utf-8").split("\n")
+            text = path.read_text(encoding="utf-8")
+            for name, other in RENAMED.findall(text):
+                text = re.sub(rf"\b{other}\b", name, text)
+            found[str(short)] = text.split("\n")
     return found
 
 
@@ -146,10 +153,10 @@ def derived(lines, at):
 
 def calls(crate):
     """The public calls of the crate: by type or module, signatures and sentences. Also what is said of each type, the traits of
-    each, and the names of other crates that it hands out."""
+    each, the names of other crates that it hands out, and what of its own it turns into types of others."""
     found = sources(crate)
     own, others, modules = handed_out(found["lib.rt"])
-    given, heads, traits, seen = {}, {}, {}, set()
+    given, heads, traits, seen, turned = {}, {}, {}, set(), []
     for file, lines in found.items():
         module = file.removesuffix(".rt").split("/")[0]
         inside = None
@@ -158,6 +165,9 @@ def calls(crate):
             where = f"crates/{crate}/src/{file}:{at + 1}"
             if line.startswith(("impl", "unsafe impl")):
                 inside, trait = owner(line)
+                into = CONVERSION.fullmatch(line)
+                if into and into[1] in own and into[2] not in own:
+                    turned.append(f"`From<{into[1]}>` for `{into[2]}`")
                 # (a model is what contracts see of a type, and no call)
                 if trait and trait != "Model":
                     traits.setdefault(inside, []).append(trait)
@@ -202,17 +212,18 @@ def calls(crate):
     lost = [it for it in own if it not in seen]
     if lost:
         raise Unknown(f"crates/{crate}/src/lib.rt hands out {', '.join(lost)}, found nowhere")
-    return given, heads, traits, others
+    return given, heads, traits, others, turned
 
 
 def page():
     """The whole page."""
     text = HEAD
     for crate in CRATES:
-        given, heads, traits, others = calls(crate)
+        given, heads, traits, others, turned = calls(crate)
         text += f"\n## `{crate}`\n"
         for other, names in others.items():
             text += f"\nOf `{other}` it hands out {', '.join(f'`{it}`' for it in names)}.\n"
+        text += f"\nIt has {', '.join(turned)}.\n" * bool(turned)
         for name in sorted(given, key=lambda it: (it != "", "laws" in it, it)):
             title = f"`{name}`" if name else "Functions"
             text += f"\n### {title}\n\n"

@@ -7,7 +7,7 @@
  *                                       the last: a heap that was used before lies otherwise
  *
  * It prints a row of a table: the name, seconds of loading, of look-ups after the first load and after the last, of writing, and
- * the peak of memory in MB; - where the library has no such call, REFUSED behind it where one failed or found no value. */
+ * the peak of memory in MB; - where the library has no such call, REFUSED after it where one failed or found no value. */
 #include "measured.h"
 
 #if defined BIGROSK

@@ -2,7 +2,7 @@
 use ini::Ini;
 use std::io::{self, BufRead};
 
-/// The texts of a document, and behind them those that it doesn't have.
+/// The texts of a document, and after them those that it doesn't have.
 struct Names {
     has_sections: bool,
     texts: Vec<String>,

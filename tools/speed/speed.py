@@ -7,7 +7,7 @@
     speed.py count FOLDER PROGRAM PROGRAM ..
     speed.py chart [--turns N] FOLDER FILE NAME=PROGRAM ..
 
-`inputs` writes seven settings files of about that size into FOLDER; they are the same each time.
+`inputs` writes eight settings files of about that size into FOLDER; they are the same each time.
 
 `compare` runs each PROGRAM (a command of one or more words that reads a settings file and writes it formatted) on each file
 of FOLDER, in seven turns or in as many as are asked for, and prints for each program the shortest user and system time, the
@@ -16,6 +16,9 @@ peak of memory, and the ratios of both to the last program's. It stops where two
 `time` does the same for programs that need not write the same, as those that parse alone. `count` prints the millions of
 instructions of one run instead, as valgrind counts them, and the ratio: they stay the same beside other work. `chart` measures as
 `time` does, and draws it into FILE, an SVG, under the programs' names.
+
+Where the word OPTIONS stands in a PROGRAM, the options by which a file is to be read come in its place: for `noted`
+`--inline-comments`, else none. (The crate reads its notes with the feature `inline-comment`.)
 """
 import argparse
 import hashlib
@@ -83,7 +86,15 @@ def quoted(chance):
         yield f"{chance.choice(KEYS)} = \"a 'quoted' part # with marks\" 'and another' and the rest\n"
 
 
-INPUTS = [settings, one_section, repeated, long_values, escaped, unicode, quoted]
+def noted(chance):
+    """Pairs, and a note after each third one."""
+    for number in itertools.count(1):
+        note = "" if number % 3 else "  ; what it is for"
+        yield f"{chance.choice(KEYS)} {number} = {chance.choice(VALUES)}{note}\n"
+
+
+INPUTS = [settings, one_section, repeated, long_values, escaped, unicode, quoted, noted]
+OPTIONS = {"noted": ["--inline-comments"]}
 
 
 def write_inputs(folder, megabytes):
@@ -99,11 +110,17 @@ def write_inputs(folder, megabytes):
                     break
 
 
+def words_of(program, path):
+    """The program's words for an input."""
+    for word in shlex.split(program):
+        yield from OPTIONS.get(path.stem, []) if word == "OPTIONS" else [word]
+
+
 def run(program, path):
     """Seconds of user and system time, and megabytes at the peak, of one run. It is a child of `time`, which is small: the peak of
     a child has in it what its parent had when it began."""
     with open(path, "rb") as source, tempfile.NamedTemporaryFile("r") as peak:
-        words = ["time", "--quiet", "--format=%M", f"--output={peak.name}", *shlex.split(program)]
+        words = ["time", "--quiet", "--format=%M", f"--output={peak.name}", *words_of(program, path)]
         process = subprocess.Popen(words, stdin=source, stdout=subprocess.DEVNULL)
         _, status, usage = os.wait4(process.pid, 0)
         # 1 is a look-up that finds nothing
@@ -116,7 +133,7 @@ def digest(program, path):
     """A hash of what the program writes. It is read in pieces, since a child begins with its parent's memory."""
     seen = hashlib.sha256()
     with open(path, "rb") as source:
-        process = subprocess.Popen(shlex.split(program), stdin=source, stdout=subprocess.PIPE)
+        process = subprocess.Popen(list(words_of(program, path)), stdin=source, stdout=subprocess.PIPE)
         while piece := process.stdout.read(0x10000):
             seen.update(piece)
         process.wait()
@@ -160,7 +177,7 @@ def chart(folder, file, named, turns):
 
 def instructions(program, path):
     """Millions of instructions of one run."""
-    counting = ["valgrind", "--tool=callgrind", "--callgrind-out-file=/dev/null", *shlex.split(program)]
+    counting = ["valgrind", "--tool=callgrind", "--callgrind-out-file=/dev/null", *words_of(program, path)]
     with open(path, "rb") as source:
         told = subprocess.run(counting, stdin=source, stdout=subprocess.DEVNULL, stderr=subprocess.PIPE, text=True)
     return int(re.search(r"Collected : (\d+)", told.stderr)[1]) / 1e6

@@ -66,19 +66,31 @@ bare_k = record {
 first : IsPlainPair default_parse_option Basics (codes "k") []
 first = record {
   plain_key = IsPlainKey.bare bare_k;
+  key_no_note = λ on. refl;
   key_read_back = reads_k;
-  plain_value = record { is_trimmed = refl; no_quote_mark = λ on. tt; read_back = reads_nothing };
+  plain_value = record {
+    is_trimmed = refl;
+    no_quote_mark = λ on. tt;
+    no_note = λ on. refl;
+    read_back = reads_nothing;
+  };
 }
 
 second : IsPlainPair default_parse_option Basics (codes "j") (codes "x\ny")
 second = record {
   plain_key = IsPlainKey.bare bare_j;
+  key_no_note = λ on. refl;
   key_read_back = reads_j;
-  plain_value = record { is_trimmed = refl; no_quote_mark = λ on. refl; read_back = reads_lines };
+  plain_value = record {
+    is_trimmed = refl;
+    no_quote_mark = λ on. refl;
+    no_note = λ on. refl;
+    read_back = reads_lines;
+  };
 }
 
 name : IsPlainName default_parse_option Basics (codes "b")
-name = record { is_trimmed = refl; no_bracket = λ _. refl; read_back = reads_b }
+name = record { is_trimmed = refl; no_bracket = λ _. refl; no_note = λ _ _. refl; read_back = reads_b }
 
 module _ {X : Type 0} (P : X → Type 0) where
   all_of_one : (x : X) → P x → All P (x ∷ [])

@@ -4,14 +4,13 @@ use Rattle.std.specs.Prelude.{List, Option, Result, Ok, Err, IfErr, OnOk}
 use Rattle.ini.specs.Loading.{IsStopOf}
 use Rattle.ini.specs.Texts.{Text}
 use Rattle.ini_edit.specs.Edited.{IfEditParse}
-use Rattle.ini_edit.specs.Made.{IsWritableLine}
 use Rattle.ini_edit.specs.SourceEditsAdded.{RefusesAdding}
 use Rattle.ini_edit.specs.SourceWritten.{HasForm, IsWritableNew, RefusesNew}
 use Rattle.ini_edit.specs.Sources.{SectionPiece}
 use Rattle.ini_edit.specs.WholeTexts.{RefusesToAddTo, RefusesToSetOf}
 use Rattle.ini_edit.specs.declared.error.EditError.{EditError}
 use Rattle.ini_edit.specs.declared.error.EditError.TheVariants as refusals
-use Rattle.ini_c.specs.TextEdits.{HasUnwritableKey}
+use Rattle.ini_c.specs.TextEdits.{HasUnwritableKey, IsWritableLine}
 use Rattle.ini_text.specs.declared.error.Error.TheVariants.{Io, Memory, NoProgress, NotUtf8, Parse}
 use Rattle.ini_text.specs.declared.error.ParseError.{ParseError}
 use Rattle.ini_text.specs.declared.option.ParseOption.{ParseOption}
@@ -44,6 +43,7 @@ module _ (o : ParseOption) (w : WriteOption) (T : Text) (name : Option Text) (ke
   line_of new = record {
     has_form = new.has_form;
     plain_key = new.plain_key;
+    key_no_note = new.key_no_note;
     key_read_back = new.key_read_back;
   }
 
@@ -58,6 +58,7 @@ module _ (o : ParseOption) (w : WriteOption) (T : Text) (name : Option Text) (ke
       plain_separator = refused.0;
       has_form = line.has_form;
       plain_key = line.plain_key;
+      key_no_note = line.key_no_note;
       key_read_back = line.key_read_back;
     });
   }

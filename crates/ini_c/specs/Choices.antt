@@ -3,7 +3,7 @@ use Rattle.std.specs.Prelude.{◌≡◌, ◌==◌, if◌then◌else◌, ℕ, Boo
 use Rattle.std.specs.Prelude.{Option, Some, None, codes, encode_utf8_all, IsTrue, ◌↔◌, ◌&&◌, nat_le}
 use Rattle.std.specs.Option.{option_map, option_and_then}
 use Rattle.ini_text.specs.declared.option.LoneLine.{LoneLine}
-use Rattle.ini_text.specs.declared.option.LoneLine.TheVariants.{RunsOn, Refused}
+use Rattle.ini_text.specs.declared.option.LoneLine.TheVariants.{RunsOn, Refused, Key}
 use Rattle.ini_text.specs.declared.option.ParseOption.{ParseOption}
 use Rattle.ini.specs.Plain.{IsPlain}
 use Rattle.ini.specs.Documents.{Document}
@@ -30,27 +30,31 @@ parse_option o = record {
   enabled_brackets_in_section_names = o.brackets;
   enabled_raw_backslash = false;
   enabled_indented_comment = false;
+  enabled_inline_comment = false;
   line_without_separator = RunsOn;
 }
 
 -- what becomes of a line without separator, by its number: other numbers stand for nothing
 abbrev pub lone_line_of : ℕ → Option LoneLine
-lone_line_of n = if n == 0 then Some RunsOn else if n == 1 then Some Refused else None
+lone_line_of n =
+    if n == 0 then Some RunsOn else if n == 1 then Some Refused else if n == 2 then Some Key else None
 
--- whether indented comments are on, by a number: other numbers stand for nothing
-abbrev pub indented_comments_of : ℕ → Option Bool
-indented_comments_of n = if n == 0 then Some false else if n == 1 then Some true else None
+-- whether an option is on, by a number: other numbers stand for nothing
+abbrev pub flag_of : ℕ → Option Bool
+flag_of n = if n == 0 then Some false else if n == 1 then Some true else None
 
--- the options that stand there, with indented comments or not, and what becomes of a line without separator
-abbrev pub options_with : LoneLine → Bool → Reading → ParseOption
-options_with line comments r = record {
+-- the options that stand there, with indented and inline comments or not, and what becomes of a line without
+-- separator
+abbrev pub options_with : LoneLine → (indented inline : Bool) → Reading → ParseOption
+options_with line indented inline r = record {
   enabled_quote = r.quotes;
   enabled_escape = r.escapes;
   enabled_indented_mutiline_value = r.multiline;
   enabled_preserve_key_leading_whitespace = r.keep_indentation;
   enabled_brackets_in_section_names = r.brackets;
   enabled_raw_backslash = r.raw_backslash;
-  enabled_indented_comment = comments;
+  enabled_indented_comment = indented;
+  enabled_inline_comment = inline;
   line_without_separator = line;
 }
 
@@ -60,12 +64,18 @@ lone_line_there r = lone_line_of (if nat_le 8 r.size then r.lone_lines else 0)
 
 -- whether indented comments are on: where the size doesn't reach the number, they are off
 abbrev pub indented_comments_there : Reading → Option Bool
-indented_comments_there r = indented_comments_of (if nat_le 9 r.size then r.indented_comments else 0)
+indented_comments_there r = flag_of (if nat_le 9 r.size then r.indented_comments else 0)
+
+-- the same of inline comments
+abbrev pub inline_comments_there : Reading → Option Bool
+inline_comments_there r = flag_of (if nat_le 10 r.size then r.inline_comments else 0)
 
 -- the options that stand there, if each number stands for one
 abbrev pub options_there : Reading → Option ParseOption
 options_there r = option_and_then
-    (λ line. option_map (λ comments. options_with line comments r) (indented_comments_there r))
+    (λ line. option_and_then
+    (λ indented. option_map (λ inline. options_with line indented inline r) (inline_comments_there r))
+    (indented_comments_there r))
     (lone_line_there r)
 
 -- options with raw backslashes as the struct has them, off where the size doesn't reach these

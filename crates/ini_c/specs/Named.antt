@@ -24,6 +24,7 @@ abbrev pub first_five : ParseOption → ParseOption
 first_five o = record o {
   enabled_raw_backslash = false;
   enabled_indented_comment = false;
+  enabled_inline_comment = false;
   line_without_separator = RunsOn;
 }
 
@@ -31,6 +32,7 @@ first_five o = record o {
 abbrev pub reached : ℕ → ParseOption → ParseOption
 reached size o = record o {
   enabled_indented_comment = nat_le 9 size && o.enabled_indented_comment;
+  enabled_inline_comment = nat_le 10 size && o.enabled_inline_comment;
   line_without_separator = if nat_le 8 size then o.line_without_separator else RunsOn;
 }
 

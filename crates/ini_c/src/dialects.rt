@@ -64,6 +64,7 @@ fn lone_line_number(line: LoneLine) -> u8
     match line {
         LoneLine::RunsOn => 0,
         LoneLine::Refused => 1,
+        LoneLine::Key => 2,
     }
 }
 
@@ -75,6 +76,8 @@ fn tell_reading(options: ParseOption, reading: &mut Reading)
         reading.new.lone_lines ≡ reading.old.lone_lines }
     ensures indented_comments_stay { nat_le 9 reading.old.size ≡ false →
         reading.new.indented_comments ≡ reading.old.indented_comments }
+    ensures inline_comments_stay { nat_le 10 reading.old.size ≡ false →
+        reading.new.inline_comments ≡ reading.old.inline_comments }
 {
     reading.quotes = options.enabled_quote;
     reading.escapes = options.enabled_escape;
@@ -87,6 +90,9 @@ fn tell_reading(options: ParseOption, reading: &mut Reading)
     }
     if reading.size >= 9 {
         reading.indented_comments = u8::from(options.enabled_indented_comment);
+    }
+    if reading.size >= 10 {
+        reading.inline_comments = u8::from(options.enabled_inline_comment);
     }
 }
 
@@ -109,6 +115,8 @@ pub extern "C" fn bigrosk_ini_dialect_by(
         reading.new.lone_lines ≡ reading.old.lone_lines }
     ensures indented_comments_stay { nat_le 9 reading.old.size ≡ false →
         reading.new.indented_comments ≡ reading.old.indented_comments }
+    ensures inline_comments_stay { nat_le 10 reading.old.size ≡ false →
+        reading.new.inline_comments ≡ reading.old.inline_comments }
     ensures statuses { IsTrue (is_among result (ok ∷ absent ∷ not_utf8 ∷ [])) }
 {
     let Ok(name) = str::from_utf8(name) else {
@@ -151,6 +159,7 @@ pub extern "C" fn bigrosk_ini_dialect(
         raw_backslash: false,
         lone_lines: 0,
         indented_comments: 0,
+        inline_comments: 0,
     };
     let status = bigrosk_ini_dialect_by(name, &mut reading, write);
     read.quotes = reading.quotes;

@@ -1,8 +1,8 @@
 //! Options as C gives them: numbers and bools. This file knows their names in `ini`.
 ghost use Rattle.std.specs.Prelude.{◌≡◌, chars};
 ghost use Rattle.ini_text.specs.Laws.Plain.{IsPlainSeparator};
-ghost use Rattle.ini_c.specs.Choices.{IsWriteOption, indented_comments_there, lone_line_there, parse_option};
-ghost use Rattle.ini_c.specs.Choices.{reading_option, separator_of};
+ghost use Rattle.ini_c.specs.Choices.{IsWriteOption, flag_of, indented_comments_there, inline_comments_there};
+ghost use Rattle.ini_c.specs.Choices.{lone_line_there, parse_option, reading_option, separator_of};
 
 use ini::{EscapePolicy, LineSeparator, ParseOption, WriteOption};
 use ini_text::LoneLine;
@@ -41,10 +41,13 @@ pub struct Reading {
     pub brackets: bool,
     /// Where escapes are off, a backslash is a character like any other, before LF too.
     pub raw_backslash: bool,
-    /// What becomes of a line without separator: 0 its key runs on, 1 the text is refused; no other number.
+    /// What becomes of a line without separator: 0 its key runs on, 1 the text is refused, 2 the key has the
+    /// empty value; no other number.
     pub lone_lines: u8,
     /// Whether blanks and a comment mark begin a comment where a line starts: 0 or 1; no other number.
     pub indented_comments: u8,
+    /// Whether a comment may stand behind a value, a header or a key alone: 0 or 1; no other number.
+    pub inline_comments: u8,
 }
 
 /// How a document is written.
@@ -71,6 +74,7 @@ impl ReadChoice {
             enabled_brackets_in_section_names: self.brackets,
             enabled_raw_backslash: false,
             enabled_indented_comment: false,
+            enabled_inline_comment: false,
             line_without_separator: LoneLine::RunsOn,
         }
     }
@@ -89,6 +93,7 @@ impl Reading {
             enabled_brackets_in_section_names: self.brackets,
             enabled_raw_backslash: self.size >= 7 && self.raw_backslash,
             enabled_indented_comment: self.indented_comments()?,
+            enabled_inline_comment: self.inline_comments()?,
             line_without_separator: self.lone_line()?,
         })
     }
@@ -103,6 +108,7 @@ impl Reading {
         match self.lone_lines {
             0 => Some(LoneLine::RunsOn),
             1 => Some(LoneLine::Refused),
+            2 => Some(LoneLine::Key),
             _ => None,
         }
     }
@@ -114,11 +120,28 @@ impl Reading {
         if self.size < 9 {
             return Some(false);
         }
-        match self.indented_comments {
-            0 => Some(false),
-            1 => Some(true),
-            _ => None,
+        flag(self.indented_comments)
+    }
+
+    // The same of inline comments.
+    fn inline_comments(&self) -> Option<bool>
+        ensures { result ≡ inline_comments_there self.now }
+    {
+        if self.size < 10 {
+            return Some(false);
         }
+        flag(self.inline_comments)
+    }
+}
+
+// Whether an option is on, if the number stands for that.
+fn flag(number: u8) -> Option<bool>
+    ensures { result ≡ flag_of number }
+{
+    match number {
+        0 => Some(false),
+        1 => Some(true),
+        _ => None,
     }
 }
 

@@ -81,8 +81,16 @@ fn reading_with(read: ParseOption, word: &str) -> Option<ParseOption> {
             enabled_indented_comment: true,
             ..read
         }),
+        "inlinecomments" => Some(ParseOption {
+            enabled_inline_comment: true,
+            ..read
+        }),
         "refusedlines" => Some(ParseOption {
             line_without_separator: LoneLine::Refused,
+            ..read
+        }),
+        "lonekeys" => Some(ParseOption {
+            line_without_separator: LoneLine::Key,
             ..read
         }),
         _ => None,

@@ -1,28 +1,36 @@
 //! Questions about the elements of a text: where each stands, and the parts of its pairs.
 //!
-//! A pair is shown as `<key|separator|space_before|raw_value|space_after|trailing_lines>`, a header as its
-//! source in braces, and what gives nothing as its source in parentheses.
+//! A pair is shown as `<key|separator|space_before|raw_value|space_after|note|trailing_lines>`, where a key
+//! alone has no separator, a header as its source in braces, and what gives nothing as its source in
+//! parentheses.
 use ini::{Error, ParseOption};
 use ini_text::{Content, PairPlaces, Parser, PlacedElement};
 use std::alloc::Global;
 
+// Shows a stretch after a mark, and puts it to those before it.
+fn show_part(out: &mut String, together: &mut String, mark: char, part: &str) -> Result<(), Error> {
+    out.push(mark)?;
+    out.push_str(part)?;
+    together.push_str(part)?;
+    Ok(())
+}
+
 // Shows the stretches of a pair, and puts them together.
 fn show_pair(out: &mut String, together: &mut String, places: &PairPlaces) -> Result<(), Error> {
-    let mut encoded = [0u8; 4];
-    let separator: &str = places.separator.encode_utf8(&mut encoded);
-    let mut mark = "<";
+    show_part(out, together, '<', places.key)?;
+    out.push('|')?;
+    if let Some(separator) = places.separator {
+        out.push(separator)?;
+        together.push(separator)?;
+    }
     for part in [
-        places.key,
-        separator,
         places.space_before,
         places.raw_value,
         places.space_after,
+        places.note,
         places.trailing_lines,
     ] {
-        out.push_str(mark)?;
-        out.push_str(part)?;
-        together.push_str(part)?;
-        mark = "|";
+        show_part(out, together, '|', part)?;
     }
     out.push('>')?;
     Ok(())

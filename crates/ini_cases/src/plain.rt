@@ -8,8 +8,9 @@ use ini::{
 use ini_text::LoneLine;
 use std::alloc::{AllocError, Global};
 
-// The set of reading options that seven bits choose; brackets in names are off.
-fn reading(bits: u8) -> ParseOption {
+// The set of reading options that seven bits choose, and what becomes of a line without separator by the bits
+// above them; brackets in names are off.
+fn reading(bits: u16) -> ParseOption {
     ParseOption {
         enabled_quote: bits & 1 != 0,
         enabled_escape: bits & 2 != 0,
@@ -17,11 +18,12 @@ fn reading(bits: u8) -> ParseOption {
         enabled_preserve_key_leading_whitespace: bits & 8 != 0,
         enabled_brackets_in_section_names: false,
         enabled_raw_backslash: bits & 16 != 0,
-        enabled_indented_comment: bits & 64 != 0,
-        line_without_separator: if bits & 32 != 0 {
-            LoneLine::Refused
-        } else {
-            LoneLine::RunsOn
+        enabled_indented_comment: bits & 32 != 0,
+        enabled_inline_comment: bits & 64 != 0,
+        line_without_separator: match bits >> 7 {
+            0 => LoneLine::RunsOn,
+            1 => LoneLine::Refused,
+            _ => LoneLine::Key,
         },
     }
 }
@@ -54,12 +56,12 @@ fn are_equal(left: &Ini, right: &Ini) -> bool {
     others.next().is_none()
 }
 
-/// By how many of the 128 sets of reading options the document is plain. By each of them its text is to load
+/// By how many of the 384 sets of reading options the document is plain. By each of them its text is to load
 /// back as it.
 pub fn count_plain(alloc: Global, document: &Ini, write: &WriteOption) -> Result<usize, Error> {
     let text = written(alloc, document, write.clone()?)?;
     let mut plain: usize = 0;
-    for bits in 0..128 {
+    for bits in 0..384 {
         let read = reading(bits);
         if document.is_plain(write, read) {
             let back = Ini::load_from_str_opt(alloc, text.as_str(), read)?;

@@ -25,6 +25,7 @@ fn pieces() -> &'static [&'static str] {
         "#c",
         "\n#c\n",
         "\n ;c\n",
+        " ;n",
         ";",
         "\\",
         "\\\n",
@@ -88,7 +89,9 @@ impl Random {
             "brackets",
             "rawbackslash",
             "indentedcomments",
+            "inlinecomments",
             "refusedlines",
+            "lonekeys",
             "CRLF",
         ] {
             if self.is_even() {

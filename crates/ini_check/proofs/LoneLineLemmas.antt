@@ -1,5 +1,6 @@
--- Where a line without separator is refused, backslashes alone join a key's lines, and no line is dropped.
+-- Where keys don't run on, backslashes alone join a key's lines, and no line is dropped.
 use Rattle.std.proofs.Common.{◌≡◌, ◌∙◌, ℕ, Bool, true, false, List, [], ◌∷◌, ◌++◌, append-nil, refl, subst}
+use Rattle.std.proofs.Common.{◌≢◌, append_assoc}
 use Rattle.std.proofs.Common.{ap, eqb-true, inl, inr, ne_eqb, sym}
 use Rattle.std.proofs.Math.Bool.{and-false}
 use Rattle.std.proofs.lemmas.Bool.{and_parts, cases_Bool, not-true, or_cases, or_parts}
@@ -15,10 +16,11 @@ use Rattle.ini_text.specs.Grammar.Elements.{Element, Gap, Given}
 use Rattle.ini_text.specs.Grammar.EscapeSequences.{EscapeSequence, spelled}
 use Rattle.ini_text.specs.Grammar.Keys.{KeyFront}
 use Rattle.ini_text.specs.Grammar.Lines.{Note}
-use Rattle.ini_text.specs.Grammar.Strings.{Row, Str, is_endpoint, key_ends}
+use Rattle.ini_text.specs.Grammar.Strings.{Row, Str, is_endpoint, key_ends, noted_key_ends}
 use Rattle.ini_text.specs.Options.Backslashes.{Backslash, begins_escape, is_special}
 use Rattle.ini_text.specs.Options.ReadOptions.{backslash_of}
-use Rattle.ini_text.specs.declared.option.LoneLine.TheVariants.{Refused}
+use Rattle.ini_text.specs.declared.option.LoneLine.{LoneLine}
+use Rattle.ini_text.specs.declared.option.LoneLine.TheVariants.{Key, Refused, RunsOn}
 use Rattle.ini_text.specs.declared.option.ParseOption.{ParseOption}
 use Rattle.ini_text.proofs.GrammarLemmas.KindLemmas.{comment_mark-apart, line_end_no_blank}
 use Rattle.ini_check.specs.Traps.Keys.{has_bare_line_end}
@@ -50,14 +52,21 @@ blank_inner c h = elim (or_cases (c == 32) (c == 9) h) [
   | inr q ↦ rw (eqb-true c 9 q) (record { stays = refl; takes_none = refl })
 ]
 
-no_line_end : (c : ℕ) → is_endpoint (key_ends Refused) c ≡ false → is_line_end c ≡ false
-no_line_end c none =
+ends_no_line : (c : ℕ) → is_endpoint (key_ends Refused) c ≡ false → is_line_end c ≡ false
+ends_no_line c none =
     let ends = c == line_feed || (c == carriage_return || false) in
     let after_equals = or_parts (c == equals) (c == colon || ends) none in
     let after_colon = or_parts (c == colon) ends after_equals.1 in
     let feed = or_parts (c == line_feed) (c == carriage_return || false) after_colon.1 in
     let alone = or_parts (c == carriage_return) false feed.1 in
     rw (feed.0, alone.0) refl
+
+-- where keys don't run on, what is no endpoint ends no line
+no_line_end : (line : LoneLine) (c : ℕ) → line ≢ RunsOn → is_endpoint (key_ends line) c ≡ false
+    → is_line_end c ≡ false
+no_line_end RunsOn c keeps none = absurd (keeps refl)
+no_line_end Refused c keeps none = ends_no_line c none
+no_line_end Key c keeps none = ends_no_line c none
 
 module _ (b : Backslash) where
   raw_passes : (c : ℕ) (s : Text) → is_line_end c ≡ false → begins_escape b c ≡ false
@@ -96,27 +105,33 @@ module _ (b : Backslash) where
       let parts = and_parts (is_blank c) (list_all is_blank w) blank in
       inner_passes c (w ++ s) (blank_inner c parts.0) ∙ blanks_pass w s parts.1
 
-  row_joined : {s v : List ℕ} → Row b (key_ends Refused) s v → has_bare_line_end b false s ≡ false
-  row_joined Row.none = refl
-  row_joined (Row.raw {c} {s} takes_none no_end row) =
-      raw_passes c s (no_line_end c no_end) takes_none ∙ row_joined row
-  row_joined (Row.escape {s = s} special escape row) = escape_passes s special escape ∙ row_joined row
+  module _ (o : ParseOption) (keeps : o.line_without_separator ≢ RunsOn) where
+    row_passes : {s v : List ℕ} (t : Text) → Row b (noted_key_ends o) s v
+        → has_bare_line_end b false (s ++ t) ≡ has_bare_line_end b false t
+    row_passes t Row.none = refl
+    row_passes t (Row.raw {c} {s} takes_none no_end no_note row) =
+        raw_passes c (s ++ t) (no_line_end o.line_without_separator c keeps no_end) takes_none
+        ∙ row_passes t row
+    row_passes t (Row.escape {p} {s = s} special escape row) =
+        ap (has_bare_line_end b false) (append_assoc p s t) ∙ escape_passes (s ++ t) special escape
+        ∙ row_passes t row
 
-  string_joined : {s r v : List ℕ} → Str b (key_ends Refused) s r v → has_bare_line_end b false s ≡ false
-  string_joined (Str.closed row closes) = row_joined row
-  string_joined (Str.lone special row ends) = cc
+    string_joined : {s r v : List ℕ} → Str b (noted_key_ends o) s r v → has_bare_line_end b false s ≡ false
+    string_joined (Str.closed {s} row closes) =
+        ap (has_bare_line_end b false) (sym (append-nil s)) ∙ row_passes [] row
+    string_joined (Str.before_note c row takes_none no_end note) =
+        row_passes (c ∷ []) row
+        ∙ raw_passes c [] (no_line_end o.line_without_separator c keeps no_end) takes_none
+    string_joined (Str.lone special row ends) = row_passes (backslash ∷ []) row
 
-module _ (o : ParseOption) (refused : o.line_without_separator ≡ Refused) where
-  refused_string : {s r v : List ℕ} → Str (backslash_of o) (key_ends o.line_without_separator) s r v
-      → has_bare_line_end (backslash_of o) false s ≡ false
-  refused_string {s} {r} {v} str =
-      string_joined (backslash_of o) (subst (λ line. Str (backslash_of o) (key_ends line) s r v) refused str)
-
+module _ (o : ParseOption) (keeps : o.line_without_separator ≢ RunsOn) where
   pub key_joined : {b k r key : List ℕ} → KeyFront o b k r key
       → has_bare_line_end (backslash_of o) false k ≡ false
-  key_joined (KeyFront.unindented begins str) = refused_string str
+  key_joined (KeyFront.unindented begins str) =
+      string_joined (backslash_of o) o keeps str
   key_joined (KeyFront.indented {w} {s} ind begins str) =
-      blanks_pass (backslash_of o) w s ind.blank ∙ refused_string str
+      blanks_pass (backslash_of o) w s ind.blank
+      ∙ string_joined (backslash_of o) o keeps str
 
 -- nothing in it is a line that is no comment
 pub record IsEmptyLine (s : Text) : Type 0 where
@@ -182,16 +197,17 @@ gap_drops_none (Gap.before_header {w} ind) = blanks_empty w ind.blank
 gap_drops_none (Gap.white {c} white apart) = one_white c
 
 pub nothing_dropped : {o : ParseOption} {b s r : Text} {items : List Given}
-    → o.line_without_separator ≡ Refused → items ≡ [] → Element o b s r items → drops_line s ≡ false
-nothing_dropped refused none (Element.gap g) = gap_drops_none g
-nothing_dropped refused none (Element.comment {m} s one mark all) = rw ((comment_mark-apart m mark).0) refl
-nothing_dropped refused none (Element.last_comment {m} one mark all) = rw ((comment_mark-apart m mark).0) refl
-nothing_dropped refused none (Element.indented_comment {w} {s} on ind n) =
+    → o.line_without_separator ≢ RunsOn → items ≡ [] → Element o b s r items → drops_line s ≡ false
+nothing_dropped keeps none (Element.gap g) = gap_drops_none g
+nothing_dropped keeps none (Element.comment {m} s one mark all) = rw ((comment_mark-apart m mark).0) refl
+nothing_dropped keeps none (Element.last_comment {m} one mark all) = rw ((comment_mark-apart m mark).0) refl
+nothing_dropped keeps none (Element.indented_comment {w} {s} on ind n) =
     (after_blanks_empty w s ind.blank (note_empty n)).dropped
-nothing_dropped refused none (Element.comment_after_cr on starts later n) = (note_empty n).dropped
-nothing_dropped refused none (Element.header off str) = cc
-nothing_dropped refused none (Element.bracketed_header on str i) = cc
-nothing_dropped refused none (Element.pair front some sep given) = cc
-nothing_dropped refused none (Element.dropped_blanks {w} ind) = blanks_empty w ind.blank
-nothing_dropped refused none (Element.dropped_key runs ind begins stops) =
-    let both = sym runs ∙ refused in cc
+nothing_dropped keeps none (Element.note may later n) = (note_empty n).dropped
+nothing_dropped keeps none (Element.header off str) = cc
+nothing_dropped keeps none (Element.bracketed_header on str i) = cc
+nothing_dropped keeps none (Element.pair front some sep given) = cc
+nothing_dropped keeps none (Element.lone_key may_be front some next) = cc
+nothing_dropped keeps none (Element.dropped_blanks {w} ind) = blanks_empty w ind.blank
+nothing_dropped keeps none (Element.dropped_key runs ind begins stops) =
+    absurd (keeps runs)

@@ -1,6 +1,6 @@
 -- A text has one list of warnings: its elements are determined, and so is what is warned of in each.
 use Rattle.std.proofs.Common.{◌≡◌, ◌∙◌, ◌↔◌, ℕ, Bool, true, false, IsTrue, List, [], ◌∷◌, ◌++◌, length}
-use Rattle.std.proofs.Common.{refl, sym}
+use Rattle.std.proofs.Common.{None, Some, refl, sym}
 use Rattle.std.proofs.Common.{ap, subst, append_assoc, append-nil, length-append, arith, chars}
 use Rattle.std.proofs.lemmas.Bool.{or_parts, not-true}
 use Rattle.std.proofs.lemmas.List.{append_cancel_left, append_cancel_right}
@@ -9,13 +9,14 @@ use Rattle.std.specs.declared.alloc.Global.{Global}
 use Rattle.std.specs.declared.borrow.CowStr.{CowStr}
 use Rattle.std.specs.Prelude.{◌||◌, ◌==◌}
 use Rattle.ini.specs.Texts.{Text}
-use Rattle.ini_text.specs.Grammar.CharacterKinds.{BeginsWith, BeginsWithNo, backslash, is_blank}
+use Rattle.ini_text.specs.Grammar.CharacterKinds.{BeginsWith, BeginsWithNo, is_blank}
 use Rattle.ini_text.specs.Grammar.CharacterKinds.{is_comment_mark}
 use Rattle.ini_text.specs.Grammar.CharacterKinds.{is_line_end, open_bracket}
 use Rattle.ini_text.specs.Grammar.Elements.{Header, Pair}
 use Rattle.ini_text.specs.Grammar.Keys.{KeyFront, begins_indented_key, begins_key, begins_note}
-use Rattle.ini_text.specs.Grammar.Places.{ArePlaced, Stretches, pair_source, value_source}
-use Rattle.ini_text.specs.Grammar.Strings.{Str, is_endpoint, key_ends}
+use Rattle.ini_text.specs.Grammar.Places.{ArePlaced, FollowsKey, IsLone, Stretches, after_key_source}
+use Rattle.ini_text.specs.Grammar.Places.{pair_source, separator_text, value_source}
+use Rattle.ini_text.specs.Grammar.Strings.{Str, noted_key_ends}
 use Rattle.ini_text.specs.Inside.ElementReader.{element, key_string}
 use Rattle.ini_text.specs.Inside.Reading.{Answer, found}
 use Rattle.ini_text.specs.Inside.Scans.{skipped}
@@ -23,8 +24,6 @@ use Rattle.ini_text.specs.Parsing.Items.{cow_text}
 use Rattle.ini_text.specs.Parsing.Places.{HasPlaces, StandsBetween, gives, stretches_of}
 use Rattle.ini_text.specs.Laws.Plain.{IsPlainPair}
 use Rattle.ini_text.specs.Options.ReadOptions.{backslash_of}
-use Rattle.ini_text.specs.declared.option.LoneLine.{LoneLine}
-use Rattle.ini_text.specs.declared.option.LoneLine.TheVariants.{Refused, RunsOn}
 use Rattle.ini_text.specs.declared.option.ParseOption.{ParseOption}
 use Rattle.ini_text.specs.declared.parser.placed.Content.{Content}
 use Rattle.ini_text.specs.declared.parser.placed.Content.TheVariants as contents
@@ -34,7 +33,7 @@ use Rattle.ini_text.proofs.GrammarLemmas.KindLemmas.{no_white_no_blank}
 use Rattle.ini_text.proofs.PlaceLemmas.TailLemmas.{found_rest}
 use Rattle.ini_text.proofs.ReaderLemmas.ElementReaderLemmas.{element-finds}
 use Rattle.ini_text.proofs.ReaderLemmas.RunReaderLemmas.{run-finds}
-use Rattle.ini_text.proofs.ReaderLemmas.StringReaderLemmas.{string-reads}
+use Rattle.ini_text.proofs.ReaderLemmas.KeyReaderLemmas.{key_string-reads}
 use Rattle.ini_check.specs.Warnings.{AreWarningsOf, ElementWarns, HeaderWarns, PairWarns, Warns}
 use Rattle.ini_check.specs.Warnings.{header_traps}
 use Rattle.ini_text.specs.declared.write.policy.EscapePolicy.TheVariants.{Basics}
@@ -62,25 +61,18 @@ indented_begins o (c ∷ t) begins =
     let y = or_parts (is_blank c || is_line_end c) (c == open_bracket) x.0 in
     (or_parts (is_blank c) (is_line_end c) y.0).0
 
--- no key ends at a backslash
-no_backslash : (line : LoneLine) → is_endpoint (key_ends line) backslash ≡ false
-no_backslash RunsOn = refl
-no_backslash Refused = refl
-
 key_finds : (o : ParseOption) {s r v : List ℕ}
-    → Str (backslash_of o) (key_ends o.line_without_separator) s r v → key_string o (s ++ r) ≡ found v r
-key_finds o str =
-    let line = o.line_without_separator in
-    (string-reads (backslash_of o) (key_ends line) (no_backslash line)).finds str
+    → Str (backslash_of o) (noted_key_ends o) s r v → key_string o (s ++ r) ≡ found v r
+key_finds o str = (key_string-reads o).finds str
 
-key_read : {o : ParseOption} {b k x key : List ℕ} {m : ℕ} → KeyFront o b k (m ∷ x) key
-    → (u : List ℕ) × (key_string o (skipped is_blank (k ++ m ∷ x)) ≡ found u (m ∷ x))
-key_read {o} {x = x} {m = m} (KeyFront.unindented {s} {v = v} begins str) =
-    (v, ap (key_string o) (key_begins (s ++ m ∷ x) begins) ∙ key_finds o str)
-key_read {o} {x = x} {m = m} (KeyFront.indented {w} {s} {v = v} ind begins str) =
-    let following : skipped is_blank ((w ++ s) ++ m ∷ x) ≡ s ++ m ∷ x =
-    ap (skipped is_blank) (append_assoc w s (m ∷ x))
-    ∙ (run-finds is_blank w (s ++ m ∷ x) ind.blank (indented_begins o (s ++ m ∷ x) begins)).1 in (
+key_read : {o : ParseOption} {b k r key : List ℕ} → KeyFront o b k r key
+    → (u : List ℕ) × (key_string o (skipped is_blank (k ++ r)) ≡ found u r)
+key_read {o} (KeyFront.unindented {s} {r} {v} begins str) =
+    (v, ap (key_string o) (key_begins (s ++ r) begins) ∙ key_finds o str)
+key_read {o} (KeyFront.indented {w} {s} {r} {v} ind begins str) =
+    let following : skipped is_blank ((w ++ s) ++ r) ≡ s ++ r =
+    ap (skipped is_blank) (append_assoc w s r)
+    ∙ (run-finds is_blank w (s ++ r) ind.blank (indented_begins o (s ++ r) begins)).1 in (
       v,
       ap (key_string o) following ∙ key_finds o str,
     )
@@ -94,23 +86,55 @@ record IsOnePair (p q : Stretches) : Type 0 where
   pub separator : p.separator ≡ q.separator
   pub source : value_source p ≡ value_source q
 
+-- what stands after the keys of two pairs
+record IsOneAfterKey (p q : Stretches) : Type 0 where
+  pub separator : p.separator ≡ q.separator
+  pub source : value_source p ≡ value_source q
+
+lone_nothing : {o : ParseOption} {p : Stretches} {r v : List ℕ} → IsLone o p r v → after_key_source p ≡ []
+lone_nothing {p = p} lone = ap (λ m. separator_text m ++ value_source p) lone.no_separator ∙ lone.nothing
+
+one_after_key : {o : ParseOption} {r v v2 : List ℕ} (p q : Stretches) → FollowsKey o p r v
+    → FollowsKey o q r v2 → after_key_source p ≡ after_key_source q → IsOneAfterKey p q
+one_after_key p q (FollowsKey.has_value h) (FollowsKey.has_value k) same =
+    let x = value_source p in
+    let y = value_source q in
+    let both : h.separator ∷ x ≡ k.separator ∷ y =
+    sym (ap (λ m. separator_text m ++ x) h.separator_is) ∙ same
+    ∙ ap (λ m. separator_text m ++ y) k.separator_is in
+    let separators : h.separator ≡ k.separator = cc in
+    record {
+      separator = h.separator_is ∙ ap Some separators ∙ sym k.separator_is;
+      source = cc;
+    }
+one_after_key p q (FollowsKey.has_value h) (FollowsKey.is_lone k) same =
+    let both : h.separator ∷ value_source p ≡ [] =
+    sym (ap (λ m. separator_text m ++ value_source p) h.separator_is) ∙ same ∙ lone_nothing k in
+    cc
+one_after_key p q (FollowsKey.is_lone h) (FollowsKey.has_value k) same =
+    let both : k.separator ∷ value_source q ≡ [] =
+    sym (ap (λ m. separator_text m ++ value_source q) k.separator_is) ∙ sym same ∙ lone_nothing h in
+    cc
+one_after_key p q (FollowsKey.is_lone h) (FollowsKey.is_lone k) same = record {
+  separator = h.no_separator ∙ sym k.no_separator;
+  source = h.nothing ∙ sym k.nothing;
+}
+
 one_pair : {o : ParseOption} {b r key v key2 v2 : List ℕ} (p q : Stretches) → ArePlaced o b p r key v
     → ArePlaced o b q r key2 v2 → pair_source p ≡ pair_source q → IsOnePair p q
 one_pair {o} {r = r} p q at_p at_q same =
     let read_p = key_read at_p.key_front in
     let read_q = key_read at_q.key_front in
-    let x = value_source p ++ r in
-    let y = value_source q ++ r in
-    let texts : p.key ++ p.separator ∷ x ≡ q.key ++ q.separator ∷ y =
-    sym (append_assoc p.key (p.separator ∷ value_source p) r) ∙ ap (λ s. s ++ r) same
-    ∙ append_assoc q.key (q.separator ∷ value_source q) r in
-    let rests : p.separator ∷ x ≡ q.separator ∷ y = found_rest (sym read_p.1 ∙ ap (reads_key o) texts ∙ read_q.1) in
-    let sources : x ≡ y = cc in
+    let x = after_key_source p in
+    let y = after_key_source q in
+    let texts : p.key ++ (x ++ r) ≡ q.key ++ (y ++ r) =
+    sym (append_assoc p.key x r) ∙ ap (λ s. s ++ r) same ∙ append_assoc q.key y r in
+    let rests : x ++ r ≡ y ++ r = found_rest (sym read_p.1 ∙ ap (reads_key o) texts ∙ read_q.1) in
+    let one = one_after_key p q at_p.after_key at_q.after_key (append_cancel_right x y r rests) in
     record {
-      key = append_cancel_right p.key q.key (p.separator ∷ x)
-          (texts ∙ ap (λ t. q.key ++ t) (sym rests));
-      separator = cc;
-      source = append_cancel_right (value_source p) (value_source q) r sources;
+      key = append_cancel_right p.key q.key (x ++ r) (texts ∙ ap (λ t. q.key ++ t) (sym rests));
+      separator = one.separator;
+      source = one.source;
     }
 
 -- two contents of which is warned alike

@@ -5,8 +5,7 @@ use Rattle.std.proofs.Common.{count_by, rules, length-append, append_assoc, appe
 use Rattle.std.proofs.lemmas.List.Sums.{count_by-le-length}
 use Rattle.std.proofs.lemmas.Bool.{cond-true, cond-false}
 use Rattle.std.specs.List.{list_any, fold}
-use Rattle.ini_text.specs.Grammar.CharacterKinds.{is_line_feed, is_separator}
-use Rattle.ini_text.specs.Grammar.Places.{Stretches, pair_source, value_source}
+use Rattle.ini_text.specs.Grammar.CharacterKinds.{is_line_feed}
 use Rattle.ini_text.specs.Grammar.Positions.{column_of}
 use Rattle.ini_text.proofs.StringLemmas.PositionLemmas.{column_from, column-front}
 use Rattle.ini_check.specs.Inside.Positions.{HasRoom, IsAt}
@@ -112,10 +111,6 @@ module _ (p rest : List ℕ) (m n : Position) (none : rest ≡ [])
     column = omega (arith, column_is, room.column, column-bound m.column p);
   }
 
--- a separator is no LF
-pub separator-other : (c : ℕ) → is_separator c ≡ true → is_line_feed c ≡ false
-separator-other c is = grind (arith, is)
-
 -- the place after a character that is no LF
 pub other_at : (b : List ℕ) (c : ℕ) (m n : Position) → is_line_feed c ≡ false → n.line ≡ m.line
     → n.column ≡ m.column + 1 → IsAt b m → IsAt (b ++ c ∷ []) n
@@ -143,14 +138,6 @@ room_less less room = record {
   line = omega (arith, less, room.line);
   column = omega (arith, less, room.column);
 }
-
--- a pair has room for what stands before its value
-pub value_room : (p : Stretches) → length p.key + (1 + length p.space_before) ≤ length (pair_source p)
-value_room p = omega (
-  arith,
-  length-append p.key (p.separator ∷ value_source p),
-  length-append p.space_before (p.raw_value ++ (p.space_after ++ p.trailing_lines)),
-)
 
 -- in a text that is short enough there is room after a front for what follows it
 pub room_after : (T b s r : List ℕ) (m : Position) → length T + 1 < 2 ^ 64 → T ≡ b ++ (s ++ r) → IsAt b m

@@ -1,20 +1,28 @@
 -- Each trap in a small text, and the nearest text without it.
 use Rattle.std.proofs.Common.{◌≡◌, refl, true, false, [], ◌∷◌, ◌++◌}
-use Rattle.std.specs.Prelude.{codes}
+use Rattle.std.specs.Prelude.{None, Some, codes}
+use Rattle.ini_text.specs.Grammar.CharacterKinds.{equals}
 use Rattle.ini_text.specs.Options.ReadOptions.{default_parse_option, with_raw_backslashes, without_escapes}
+use Rattle.ini_text.specs.declared.option.LoneLine.TheVariants.{Key}
 use Rattle.ini_text.specs.declared.option.ParseOption.{ParseOption}
 use Rattle.ini_check.specs.Mends.Characters.{with_value_escapes_doubled}
+use Rattle.ini_check.specs.Mends.Elements.{mended_pair}
 use Rattle.ini_check.specs.Traps.Keys.{comment_runs_on, has_escape, has_key_escape, has_line_end, is_empty}
 use Rattle.ini_check.specs.Traps.Keys.{lower, mark_begins_key, has_equals, has_value_escape, runs_on}
 use Rattle.ini_check.specs.Traps.LostLines.{drops_line}
 use Rattle.ini_check.specs.Traps.Values.{has_comment_mark, has_odd_space}
-use Rattle.ini_check.specs.Warnings.{comment_warnings, inner_warnings, warning}
+use Rattle.ini_check.specs.Warnings.{comment_warnings, inner_warnings, known_nothing, pair_warnings}
+use Rattle.ini_check.specs.Warnings.{warning}
 use Rattle.ini_check.specs.declared.lexical.LexicalState.TheVariants.{Front}
 use Rattle.ini_check.specs.declared.warning.Trap.TheVariants.{HalfQuote, HeaderInValue, JoinedLine, LoneCr}
+use Rattle.ini_check.specs.declared.warning.Trap.TheVariants.{MarkBeginsKey}
 use Rattle.ini_check.specs.declared.warning.Trap.TheVariants.{PairInValue, TextAfterQuote, UnclosedQuote}
 
 abbrev without_quotes : ParseOption
 without_quotes = record default_parse_option { enabled_quote = false }
+
+abbrev with_lone_keys : ParseOption
+with_lone_keys = record default_parse_option { line_without_separator = Key }
 
 abbrev with_indented_comments : ParseOption
 with_indented_comments = record default_parse_option { enabled_indented_comment = true }
@@ -54,6 +62,9 @@ key-runs = refl
 
 key-runs-not : runs_on (codes "two ") ≡ false
 key-runs-not = refl
+
+key-joined : runs_on (codes "one\\\ntwo") ≡ true
+key-joined = refl
 
 comment-runs : comment_runs_on (codes "  ; note\nk ") ≡ true
 comment-runs = refl
@@ -103,10 +114,10 @@ cased = refl
 name_is_empty : is_empty [] ≡ true
 name_is_empty = refl
 
-equals_after_colon : has_equals true false (codes "30 = job") ≡ true
+equals_after_colon : has_equals default_parse_option true false (codes "30 = job") ≡ true
 equals_after_colon = refl
 
-equals_in_word : has_equals false false (codes "FOO=bar run") ≡ false
+equals_in_word : has_equals default_parse_option false false (codes "FOO=bar run") ≡ false
 equals_in_word = refl
 
 escape : has_escape true false (codes "C:\\temp") ≡ true
@@ -214,3 +225,20 @@ odd-noted = refl
 doubled-noted : with_value_escapes_doubled with_indented_comments Front (codes "C:\\temp\n ; C:\\temp")
     ≡ codes "C:\\\\temp\n ; C:\\temp"
 doubled-noted = refl
+
+-- a key alone
+lone : pair_warnings with_lone_keys [] known_nothing (codes "skip-x") None [] true ≡ []
+lone = refl
+
+lone-indented : pair_warnings with_lone_keys (codes "k\n") known_nothing (codes "  w") None [] true ≡ []
+lone-indented = refl
+
+lone-marked : pair_warnings with_lone_keys [] known_nothing (codes "  ; c") None [] true
+    ≡ warning [] (codes "  ; c") MarkBeginsKey ∷ []
+lone-marked = refl
+
+lone-mended : mended_pair with_lone_keys MarkBeginsKey (codes "  ; c") None [] ≡ codes "; c"
+lone-mended = refl
+
+empty-mended : mended_pair with_lone_keys MarkBeginsKey (codes "  ; c") (Some equals) [] ≡ codes "; c="
+empty-mended = refl

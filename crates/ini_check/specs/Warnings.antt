@@ -62,10 +62,10 @@ key_traps escapes known source plain =
     ∷ (is_unplain escapes plain (begins_like_comment source), traps.NotPlain)
     ∷ []
 
--- the trap of a pair's separator, before this source; `quotes` says whether quotes are read
-abbrev pub separator_trap : Bool → Text → ℕ → Text → Option Trap
-separator_trap quotes key separator source =
-    if colon_separates quotes key separator source then Some traps.ColonSeparates else None
+-- the trap of a pair's separator, before this source
+abbrev pub separator_trap : ParseOption → Text → ℕ → Text → Option Trap
+separator_trap o key separator source =
+    if colon_separates o key separator source then Some traps.ColonSeparates else None
 
 -- the traps of a pair's value as a whole, by what stands after the separator
 abbrev pub value_traps : ParseOption → Text → List (Bool × Trap)
@@ -135,12 +135,19 @@ value_warnings o b key source =
     warned_all b (first_line (value_of source)) (value_traps o source)
     ++ inner_warnings o (is_list key (value_of source)) Front b (value_of source)
 
+-- of what stands after a key, after the front b: the separator, and this source after it; a key alone has
+-- nothing after it
+abbrev pub after_key_warnings : ParseOption → Text → Text → Option ℕ → Text → List Warning
+after_key_warnings o b key None source = []
+after_key_warnings o b key (Some separator) source =
+    warned_of b (separator ∷ []) (separator_trap o key separator source)
+    ++ value_warnings o ((b ++ separator ∷ []) ++ space_of source) key source
+
 -- of a pair of this key, separator and source after it, after the front b
-abbrev pub pair_warnings : ParseOption → Text → Known → Text → ℕ → Text → Bool → List Warning
+abbrev pub pair_warnings : ParseOption → Text → Known → Text → Option ℕ → Text → Bool → List Warning
 pair_warnings o b known key separator source plain =
     warned_all b key (key_traps o.enabled_escape known key plain)
-    ++ (warned_of (b ++ key) (separator ∷ []) (separator_trap o.enabled_quote key separator source)
-    ++ value_warnings o (((b ++ key) ++ separator ∷ []) ++ space_of source) key source)
+    ++ after_key_warnings o (b ++ key) key separator source
 
 -- of a pair
 pub record PairWarns (o : ParseOption) (b : Text) (known : Known) (p : PlacedPair) (ws : List Warning)

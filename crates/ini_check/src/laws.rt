@@ -1,11 +1,11 @@
 //! Laws of the warnings, each the contract of a function that does nothing. They speak of definitions alone.
-ghost use Rattle.std.specs.Prelude.{◌≡◌, ◌++◌, [], List, chars, false, true};
+ghost use Rattle.std.specs.Prelude.{◌≡◌, ◌≢◌, ◌++◌, [], List, chars, false, true};
 ghost use Rattle.ini.specs.Texts.{Text};
 ghost use Rattle.ini_text.specs.Grammar.Elements.{Element};
 ghost use Rattle.ini_text.specs.Grammar.Keys.{Indentation, KeyFront};
 ghost use Rattle.ini_text.specs.Grammar.Lines.{Note};
 ghost use Rattle.ini_text.specs.Options.ReadOptions.{backslash_of};
-ghost use Rattle.ini_text.specs.declared.option.LoneLine.TheVariants.{Refused};
+ghost use Rattle.ini_text.specs.declared.option.LoneLine.TheVariants.{RunsOn};
 ghost use Rattle.ini_text.specs.declared.option.ParseOption.{ParseOption};
 ghost use Rattle.ini_check.specs.Traps.Keys.{comment_runs_on, has_bare_line_end, mark_begins_key};
 ghost use Rattle.ini_check.specs.Traps.LostLines.{drops_line};
@@ -20,11 +20,11 @@ pub fn one_list(text: &str, read: ParseOption)
         → AreWarningsOf read (chars text.now) vs → ws ≡ vs }
 {}
 
-/// Where a line without separator is refused, backslashes alone join a key's lines, and no line is dropped.
+/// Where keys don't run on, backslashes alone join a key's lines, and no line is dropped.
 pub fn keys_keep_to_their_lines()
-    ensures joined { (o : ParseOption) (b k r key : Text) → o.line_without_separator ≡ Refused
+    ensures joined { (o : ParseOption) (b k r key : Text) → o.line_without_separator ≢ RunsOn
         → KeyFront o b k r key → has_bare_line_end (backslash_of o) false k ≡ false }
-    ensures dropped { (o : ParseOption) (b s r : Text) → o.line_without_separator ≡ Refused
+    ensures dropped { (o : ParseOption) (b s r : Text) → o.line_without_separator ≢ RunsOn
         → Element o b s r [] → drops_line s ≡ false }
 {}
 

@@ -1,11 +1,12 @@
 //! The warnings of one element. This file knows its places and its traps, and no other element.
-ghost use Rattle.std.specs.Prelude.{◌≡◌, ◌++◌, chars, drop, OnOk, length, IsOkUnless, alloc_error};
+ghost use Rattle.std.specs.Prelude.{◌≡◌, ◌++◌, ◌+◌, chars, drop, IsOkUnless, OnOk, Some, alloc_error};
+ghost use Rattle.std.specs.Prelude.{length};
 ghost use Rattle.ini_check.specs.Traps.Values.{space_of};
 ghost use Rattle.ini.specs.Texts.{Text};
 ghost use Rattle.ini_text.specs.Grammar.Places.{pair_source};
 ghost use Rattle.ini_text.specs.Parsing.Places.{HasPlaces, stretches_of};
-ghost use Rattle.ini_check.specs.Warnings.{Adds, ElementWarns, HeaderWarns, PairWarns, header_traps};
-ghost use Rattle.ini_check.specs.Warnings.{key_traps};
+ghost use Rattle.ini_check.specs.Warnings.{Adds, ElementWarns, HeaderWarns, PairWarns, after_key_warnings};
+ghost use Rattle.ini_check.specs.Warnings.{header_traps, key_traps};
 ghost use Rattle.ini_check.specs.Warnings.{nothing_warnings, separator_trap, value_traps, value_warnings};
 ghost use Rattle.ini_check.specs.Inside.Positions.{HasRoom, IsAt};
 
@@ -132,20 +133,36 @@ fn warn_pair(
 {
     let (key, value) = (pair.key.as_str(), pair.value.as_str());
     let is_plain = is_plain_pair(key, value, EscapePolicy::Basics, read);
-    let (key, separator) = (pair.places.key, pair.places.separator);
-    let value_source = after_separator(source, key);
+    let key = pair.places.key;
     let traps = key_traps(read.enabled_escape, known, key, is_plain);
     let after_key = position.advance(key);
     warn_all(warnings, position, after_key, &traps)?;
-    let trap = separator_trap(read.enabled_quote, key, separator, value_source);
-    warn_character(warnings, after_key, separator, trap)?;
-    warn_value(
-        warnings,
-        after_key.after(separator),
-        key,
-        value_source,
-        read,
-    )?;
+    let Some(separator) = pair.places.separator else {
+        return Ok(());
+    };
+    let value_source = after_separator(source, key);
+    warn_after_key(warnings, after_key, key, separator, value_source, read)?;
+    Ok(())
+}
+
+// Of a separator, which stands here, and of what stands after it.
+fn warn_after_key(
+    warnings: &mut Vec<Warning>,
+    position: Position,
+    key: &str,
+    separator: char,
+    source: &str,
+    read: ParseOption,
+) -> Result<(), Error>
+    requires room { HasRoom (1 + length (chars source.now)) position }
+    ensures warned { OnOk result ((b : Text) → IsAt b position → warnings.new.items
+        ≡ warnings.old.items
+        ++ after_key_warnings read b (chars key.now) (Some separator) (chars source.now)) }
+    ensures only { IsOkUnless result (Error.Memory alloc_error) }
+{
+    let trap = separator_trap(read, key, separator, source);
+    warn_character(warnings, position, separator, trap)?;
+    warn_value(warnings, position.after(separator), key, source, read)?;
     Ok(())
 }
 
@@ -193,10 +210,10 @@ fn key_traps(escapes: bool, known: Known, source: &str, is_plain: bool) -> [(boo
 }
 
 // The trap of a pair's separator, before this source.
-fn separator_trap(quotes: bool, key: &str, separator: char, source: &str) -> Option<Trap>
-    ensures { result ≡ separator_trap quotes (chars key.now) separator (chars source.now) }
+fn separator_trap(read: ParseOption, key: &str, separator: char, source: &str) -> Option<Trap>
+    ensures { result ≡ separator_trap read (chars key.now) separator (chars source.now) }
 {
-    if colon_separates(quotes, key, separator, source) {
+    if colon_separates(read, key, separator, source) {
         Some(Trap::ColonSeparates)
     } else {
         None

@@ -20,7 +20,7 @@ pub enum Trap {
     /// after it, which trimming takes.
     JoinedLine,
     /// A line without a separator runs on into the next one: a line end stands in the key's source, also
-    /// after a backslash; there alone where such lines are refused. At the key: `one⏎two = 2`.
+    /// after a backslash; there alone where keys end with their lines. At the key: `one⏎two = 2`.
     RunsOn,
     /// The same where after blanks a comment mark begins the key, as it does where indented comments are off.
     /// At the key: `  ; note⏎k = v`. Mend: the blanks before comments that stand in the key go.

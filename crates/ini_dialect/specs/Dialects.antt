@@ -3,7 +3,7 @@ use Rattle.std.specs.Prelude.{ℕ, List, [], ◌∷◌, codes, true, false, Opti
 use Rattle.std.specs.Map.{lookup}
 use Rattle.std.specs.Str.{bytes_eq}
 use Rattle.ini_text.specs.Options.ReadOptions.{default_parse_option, with_raw_backslashes, without_escapes}
-use Rattle.ini_text.specs.declared.option.LoneLine.TheVariants.{Refused}
+use Rattle.ini_text.specs.declared.option.LoneLine.TheVariants.{Refused, Key}
 use Rattle.ini_text.specs.declared.option.ParseOption.{ParseOption}
 use Rattle.ini_text.specs.declared.write.option.LineSeparator.{LineSeparator}
 use Rattle.ini_text.specs.declared.write.option.LineSeparator.TheVariants.{SystemDefault, CRLF}
@@ -59,6 +59,14 @@ standard = default_parse_option
 abbrev pub strict : ParseOption
 strict = record standard { line_without_separator = Refused }
 
+-- a line without separator is a key alone
+abbrev pub keyed : ParseOption
+keyed = record standard { line_without_separator = Key }
+
+-- the same, and notes may stand behind values
+abbrev pub keyed_noted : ParseOption
+keyed_noted = record keyed { enabled_inline_comment = true }
+
 -- comments may be indented
 abbrev pub commented : ParseOption
 commented = record standard { enabled_indented_comment = true }
@@ -67,9 +75,17 @@ commented = record standard { enabled_indented_comment = true }
 abbrev pub raw : ParseOption
 raw = without_escapes
 
+-- the same, and notes may stand behind values
+abbrev pub raw_noted : ParseOption
+raw_noted = record raw { enabled_inline_comment = true }
+
 -- a backslash is a character like any other, before a line's end too
 abbrev pub literal : ParseOption
 literal = with_raw_backslashes
+
+-- the same, and a line without separator is a key alone
+abbrev pub literal_keyed : ParseOption
+literal_keyed = record literal { line_without_separator = Key }
 
 -- no quotes
 abbrev pub unquoted : ParseOption
@@ -94,6 +110,10 @@ indented = record literal { enabled_quote = false; enabled_indented_mutiline_val
 -- the same, and comments may be indented
 abbrev pub indented_commented : ParseOption
 indented_commented = record indented { enabled_indented_comment = true }
+
+-- in place of that, notes may stand behind values
+abbrev pub indented_noted : ParseOption
+indented_noted = record indented { enabled_inline_comment = true }
 
 -- brackets in names
 abbrev pub bracketed : ParseOption
@@ -126,22 +146,22 @@ presets =
     ∷ (codes "desktop", preset unquoted_commented Basics (codes "=") last)
     ∷ (codes "python", preset indented_commented Nothing (codes " = ") last_any_case)
     ∷ (codes "php", preset standard Nothing (codes " = ") last)
-    ∷ (codes "mysql", preset literal Basics (codes "=") last)
+    ∷ (codes "mysql", preset literal_keyed Basics (codes "=") last)
     ∷ (codes "samba", preset raw Nothing (codes " = ") last_any_case)
     ∷ (codes "windows", with_crlf (preset raw Nothing (codes "=") first_any_case))
     ∷ (codes "kde", preset bracketed Basics (codes "=") last)
-    ∷ (codes "supervisor", preset raw Nothing (codes "=") last_any_case)
-    ∷ (codes "fail2ban", preset indented Nothing (codes " = ") last_any_case)
+    ∷ (codes "supervisor", preset raw_noted Nothing (codes "=") last_any_case)
+    ∷ (codes "fail2ban", preset indented_noted Nothing (codes " = ") last_any_case)
     ∷ (codes "aws", preset indented Nothing (codes " = ") last_any_case)
     ∷ (codes "editorconfig", preset patterns Nothing (codes " = ") last_any_case)
     ∷ (codes "npm", preset raw Basics (codes "=") last)
     ∷ (codes "qt", preset standard Basics (codes "=") last)
     ∷ (codes "hg", preset literal Nothing (codes " = ") last)
-    ∷ (codes "pulseaudio", preset standard Nothing (codes " = ") last)
+    ∷ (codes "pulseaudio", preset keyed Nothing (codes " = ") last)
     ∷ (codes "odbc", preset commented Nothing (codes " = ") first_any_case)
     ∷ (codes "freetds", preset commented Nothing (codes " = ") last_any_case)
     ∷ (codes "sssd", preset raw Nothing (codes " = ") last)
-    ∷ (codes "openssl", preset standard Basics (codes " = ") last)
+    ∷ (codes "openssl", preset keyed_noted Basics (codes " = ") last)
     ∷ (codes "uwsgi", preset standard Nothing (codes " = ") last)
     ∷ (codes "xrdp", preset standard Nothing (codes "=") last)
     ∷ (codes "openttd", preset unquoted Nothing (codes " = ") first)

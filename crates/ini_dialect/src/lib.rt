@@ -17,8 +17,6 @@ mod presets;
 mod rule;
 mod ruled_text;
 mod source;
-#[cfg(test)]
-mod tests;
 mod typed;
 mod walk;
 

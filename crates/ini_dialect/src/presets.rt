@@ -60,6 +60,7 @@ const STANDARD: ParseOption = ParseOption {
     enabled_brackets_in_section_names: false,
     enabled_raw_backslash: false,
     enabled_indented_comment: false,
+    enabled_inline_comment: false,
     line_without_separator: LoneLine::RunsOn,
 };
 
@@ -67,6 +68,18 @@ const STANDARD: ParseOption = ParseOption {
 const STRICT: ParseOption = ParseOption {
     line_without_separator: LoneLine::Refused,
     ..STANDARD
+};
+
+// A line without separator is a key alone.
+const KEYED: ParseOption = ParseOption {
+    line_without_separator: LoneLine::Key,
+    ..STANDARD
+};
+
+// The same, and notes may stand behind values.
+const KEYED_NOTED: ParseOption = ParseOption {
+    enabled_inline_comment: true,
+    ..KEYED
 };
 
 // Comments may be indented.
@@ -81,10 +94,22 @@ const RAW: ParseOption = ParseOption {
     ..STANDARD
 };
 
+// The same, and notes may stand behind values.
+const RAW_NOTED: ParseOption = ParseOption {
+    enabled_inline_comment: true,
+    ..RAW
+};
+
 // A backslash is a character like any other, before a line's end too.
 const LITERAL: ParseOption = ParseOption {
     enabled_raw_backslash: true,
     ..RAW
+};
+
+// The same, and a line without separator is a key alone.
+const LITERAL_KEYED: ParseOption = ParseOption {
+    line_without_separator: LoneLine::Key,
+    ..LITERAL
 };
 
 // No quotes.
@@ -121,6 +146,12 @@ const INDENTED: ParseOption = ParseOption {
 // The same, and comments may be indented.
 const INDENTED_COMMENTED: ParseOption = ParseOption {
     enabled_indented_comment: true,
+    ..INDENTED
+};
+
+// In place of that, notes may stand behind values.
+const INDENTED_NOTED: ParseOption = ParseOption {
+    enabled_inline_comment: true,
     ..INDENTED
 };
 
@@ -226,7 +257,7 @@ static DIALECTS: [NamedDialect; 26] = [
         "setup.cfg, tox.ini, what configparser reads"
     ),
     preset!("php", STANDARD, Nothing, " = ", LAST, "php.ini"),
-    preset!("mysql", LITERAL, Basics, "=", LAST, "my.cnf"),
+    preset!("mysql", LITERAL_KEYED, Basics, "=", LAST, "my.cnf"),
     preset!("samba", RAW, Nothing, " = ", LAST_ANY_CASE, "smb.conf"),
     preset!(
         "windows",
@@ -240,7 +271,7 @@ static DIALECTS: [NamedDialect; 26] = [
     preset!("kde", BRACKETED, Basics, "=", LAST, "KDE's rc files"),
     preset!(
         "supervisor",
-        RAW,
+        RAW_NOTED,
         Nothing,
         "=",
         LAST_ANY_CASE,
@@ -248,7 +279,7 @@ static DIALECTS: [NamedDialect; 26] = [
     ),
     preset!(
         "fail2ban",
-        INDENTED,
+        INDENTED_NOTED,
         Nothing,
         " = ",
         LAST_ANY_CASE,
@@ -275,7 +306,7 @@ static DIALECTS: [NamedDialect; 26] = [
     preset!("hg", LITERAL, Nothing, " = ", LAST, ".hgrc"),
     preset!(
         "pulseaudio",
-        STANDARD,
+        KEYED,
         Nothing,
         " = ",
         LAST,
@@ -298,7 +329,7 @@ static DIALECTS: [NamedDialect; 26] = [
         "freetds.conf"
     ),
     preset!("sssd", RAW, Nothing, " = ", LAST, "sssd.conf"),
-    preset!("openssl", STANDARD, Basics, " = ", LAST, "openssl.cnf"),
+    preset!("openssl", KEYED_NOTED, Basics, " = ", LAST, "openssl.cnf"),
     preset!("uwsgi", STANDARD, Nothing, " = ", LAST, "uwsgi.ini"),
     preset!("xrdp", STANDARD, Nothing, "=", LAST, "xrdp.ini, sesman.ini"),
     preset!("openttd", UNQUOTED, Nothing, " = ", FIRST, "openttd.cfg"),

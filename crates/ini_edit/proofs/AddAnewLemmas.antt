@@ -24,7 +24,7 @@ use Rattle.ini_edit.specs.declared.error.EditError.{EditError}
 use Rattle.ini_edit.specs.declared.source.written.NewPair.{NewPair}
 use Rattle.ini_edit.proofs.DeletedSourceLemmas.{nth_none}
 use Rattle.ini_edit.proofs.MadePairLemmas.{new_pair_makes}
-use Rattle.ini_edit.proofs.NewPairLemmas.{IsPlainStyle}
+use Rattle.ini_edit.proofs.NewPairLemmas.{IsPlainStyle, read_key}
 use Rattle.ini_edit.proofs.NewStyleLemmas.{new_style_anew, source_for, style_anew}
 use Rattle.ini_edit.proofs.SectionAddedListLemmas.{document_put}
 use Rattle.ini_edit.proofs.SetDocumentLemmas.{edit_nowhere}
@@ -81,7 +81,7 @@ module _ {t v : Pieces} (same : t ≡ v) (w : WriteOption) {key value source : T
   -- the pair is one that a new section may take
   pub anew_makes : AreSections t.option t.sections → MakesPairs v.option (made_pair v.option pair)
   anew_makes are =
-      new_pair_makes pair writable_there.plain_key writable_there.key_read_back
+      new_pair_makes pair writable_there.plain_key (read_key writable_there)
       (subst (IsPlainStyle v.option) (sym style_there)
       (new_style_anew v.option w writable_there.plain_separator
       (subst (λ t. AreSections t.option t.sections) same are)))

@@ -5,7 +5,7 @@ use Rattle.std.proofs.Common.{Option, ap, append_assoc, append-nil, refl, subst,
 use Rattle.ini_text.specs.Grammar.CharacterKinds.{BeginsWith, is_line_end, is_line_feed, line_feed}
 use Rattle.ini_text.specs.Grammar.Elements.{Element, Header}
 use Rattle.ini_text.specs.Grammar.Pieces.{pieces_text}
-use Rattle.ini_text.specs.Grammar.Places.{Stretches, pair_source, value_source}
+use Rattle.ini_text.specs.Grammar.Places.{Stretches, pair_source}
 use Rattle.ini_text.specs.Grammar.Positions.{last_or}
 use Rattle.ini_text.specs.Laws.PieceLaws.{BeginAlike}
 use Rattle.ini_text.specs.Options.WriteOptions.{line_end}
@@ -25,7 +25,8 @@ use Rattle.ini_edit.proofs.HeaderLemmas.{header_closed}
 use Rattle.ini_edit.proofs.InPlaceLemmas.{in_place-before, in_place-join, in_place-split}
 use Rattle.ini_edit.proofs.QuietLemmas.{as_header}
 use Rattle.ini_edit.proofs.SectionPlaceLemmas.{IsCutFor}
-use Rattle.ini_edit.proofs.SectionTakenLemmas.{IsFeed, key_starts, same_start}
+use Rattle.ini_edit.proofs.SectionTakenLemmas.{IsFeed, same_start}
+use Rattle.ini_edit.proofs.SourceAddLemmas.{sources_alike}
 use Rattle.ini_edit.proofs.SpanLemmas.{spans_local}
 
 pub feed_of : (s : LineSeparator) → IsFeed (line_end s)
@@ -60,40 +61,31 @@ module _ {o : ParseOption} where
 
   -- after a pair that ends otherwise
   pub spans_ended : {y : Text} (ys : List Span) (p q : Stretches) (key value new : Text) (tail : List Span)
-      → q.key ≡ p.key → q.separator ≡ p.separator
+      (k : Text) → q.key ≡ p.key ++ k
       → AreSpans o line_feed (ys ++ pair p key value ∷ []) y
       → ((c : ℕ) → IsPair o c p key value y → IsPair o c q key value (new ++ (joined span_source tail ++ [])))
       → ((c : ℕ) → IsGap o c new (joined span_source tail ++ []))
       → ((c : ℕ) → AreSpans o c tail [])
       → AreSpans o line_feed (ys ++ (pair q key value ∷ gap new ∷ tail)) []
-  spans_ended {y} ys p q key value new tail same separates h ended is later =
+  spans_ended {y} ys p q key value new tail k same h ended is later =
       let split = in_place-split span_source ys (pair p key value ∷ []) h in
-      in_place-join span_source ys (pair q key value ∷ gap new ∷ tail)
-      (in_place-before span_source spans_local begins split.0) (at split.1)
+      at split.0 split.1
     where
-      Z : Text
-      Z = joined span_source tail ++ []
-
       c : ℕ
       c = last_or line_feed (joined span_source ys)
 
-      begins : BeginAlike ((pair_source p ++ []) ++ y)
-          ((pair_source q ++ (new ++ joined span_source tail)) ++ [])
-      begins =
-          subst (λ k. BeginAlike ((pair_source p ++ []) ++ y)
-          (((k ++ q.separator ∷ value_source q) ++ (new ++ joined span_source tail)) ++ [])) (sym same)
-          (subst (λ m. BeginAlike ((pair_source p ++ []) ++ y)
-          (((p.key ++ m ∷ value_source q) ++ (new ++ joined span_source tail)) ++ [])) (sym separates)
-          (key_starts p.key p.separator (value_source p) [] y (value_source q)
-          (new ++ joined span_source tail) []))
-
-      at : AreSpans o c (pair p key value ∷ []) y → AreSpans o c (pair q key value ∷ gap new ∷ tail) []
-      at (AreInPlace.more (IsSpan.is_pair one) AreInPlace.none) =
-          AreInPlace.more
+      at : AreSpans o line_feed ys ((pair_source p ++ []) ++ y)
+          → AreSpans o (last_or line_feed (joined span_source ys)) (pair p key value ∷ []) y
+          → AreSpans o line_feed (ys ++ (pair q key value ∷ gap new ∷ tail)) []
+      at front (AreInPlace.more (IsSpan.is_pair one) AreInPlace.none) =
+          in_place-join span_source ys (pair q key value ∷ gap new ∷ tail)
+          (in_place-before span_source spans_local
+          (sources_alike one q k same [] (new ++ joined span_source tail) y []) front)
+          (AreInPlace.more
           (IsSpan.is_pair (subst (IsPair o c q key value)
           (sym (append_assoc new (joined span_source tail) [])) (ended c one)))
           (AreInPlace.more (IsSpan.is_gap (is (last_or c (pair_source q))))
-          (later (last_or (last_or c (pair_source q)) new)))
+          (later (last_or (last_or c (pair_source q)) new))))
 
   -- what opens a section, before a line end; and what opens none, before any text
   header_ended : {c : ℕ} {name : Option Text} {s y : Text} (x : Text)

@@ -9,30 +9,41 @@ use Rattle.std.proofs.lemmas.List.{append_cancel_left}
 use Rattle.std.specs.Char.{is_whitespace}
 use Rattle.ini_text.specs.Options.Backslashes.{Backslash}
 use Rattle.ini_text.specs.declared.option.ParseOption.{ParseOption}
-use Rattle.ini_text.specs.Grammar.CharacterKinds.{open_bracket, is_blank, is_comment_mark, is_line_feed}
-use Rattle.ini_text.specs.Grammar.CharacterKinds.{is_line_end, BeginsWith, BeginsWithNo}
+use Rattle.ini_text.specs.Grammar.CharacterKinds.{begins, line_feed, open_bracket, is_blank, is_comment_mark}
+use Rattle.ini_text.specs.Grammar.CharacterKinds.{is_line_feed}
+use Rattle.ini_text.specs.Grammar.CharacterKinds.{is_line_end, is_separator, BeginsWith, BeginsWithNo}
 use Rattle.ini_text.specs.Grammar.Places.{TrailingLines}
 use Rattle.ini_text.specs.Grammar.Positions.{last_or, is_column_one}
-use Rattle.ini_text.specs.Grammar.Strings.{Closes, Str, bracketed_name_ends, plain_ends}
+use Rattle.ini_text.specs.Grammar.Strings.{Closes, Ends, Str, bracketed_name_ends, noted, noted_key_ends}
+use Rattle.ini_text.specs.Grammar.Strings.{plain_ends}
 use Rattle.ini_text.specs.Grammar.Values.{LineEnd, MoreLines, Value}
 use Rattle.ini_text.specs.Grammar.Keys.{KeyFront, begins_key}
 use Rattle.ini_text.specs.Grammar.Elements.{Given, Header, Element}
 use Rattle.ini_text.specs.Grammar.Texts.{Reads}
-use Rattle.ini_text.proofs.GrammarLemmas.KindLemmas.{line_end_no_blank}
+use Rattle.ini_text.proofs.GrammarLemmas.KindLemmas.{comment_mark-apart, line_end_no_blank}
+use Rattle.ini_text.proofs.LawLemmas.PieceLemmas.{last_or-append}
 use Rattle.ini_text.proofs.LawLemmas.OneAheadLemmas.{Alike, CommentLine-before, Element-alike}
 use Rattle.ini_text.proofs.LawLemmas.OneAheadLemmas.{EndedLine-before, GoesOn-before, KeyFront-alike}
 use Rattle.ini_text.proofs.LawLemmas.OneAheadLemmas.{Reads-front, Str-alike}
+use Rattle.ini_text.proofs.ReaderLemmas.KeyReaderLemmas.{key_end_separates}
+use Rattle.ini_text.proofs.ReaderLemmas.StringReaderLemmas.{note_parts}
+use Rattle.ini_text.proofs.StringLemmas.ScanLemmas.{last_or_append}
 use Rattle.ini_text.proofs.PlainLemmas.PlainLineLemmas.{column_one_after}
 use Rattle.ini_text.proofs.PlainLemmas.PlainTrimLemmas.{line_end_is_white}
 use Rattle.ini_edit.specs.Places.{Follows}
 use Rattle.ini_edit.proofs.QuietLemmas.{IsHeader, Quiet, Shape, as_quiet, free, note_ahead, shape}
 use Rattle.ini_edit.proofs.ValueLemmas.{closes_line_end, line_closes}
 
+-- a comment mark stands after the front c in column one alone
+abbrev pub NoNoteAfter : (c y : List ℕ) → Type 0
+NoNoteAfter c y = BeginsWithNo is_comment_mark y ⊎ (is_column_one c ≡ true)
+
 -- What stands after the front c: no line end; and a bracket in column one alone, since blanks before one
--- are an element of their own.
+-- are an element of their own, and a comment mark, since else a note begins.
 pub record FollowsFront (c y : List ℕ) : Type 0 where
   pub some : BeginsWith (λ c. not (is_line_end c)) y
   pub bracket : BeginsWithNo (λ c. eqb c open_bracket) y ⊎ (is_column_one c ≡ true)
+  pub note : NoNoteAfter c y
 
 -- blanks don't end in column one
 last_blank : (c : ℕ) (w : List ℕ) → list_all is_blank (c ∷ w) ≡ true → is_line_feed (last_or c w) ≡ false
@@ -64,11 +75,61 @@ LineEnd-before [] x y h (LineEnd.cr n) = LineEnd.cr (no_line_feed x h)
 LineEnd-before (c ∷ t) x y h (LineEnd.cr n) = LineEnd.cr n
 
 -- no text that closes a line begins so
-pub closes_no_line : {X : Type 0} (y : List ℕ) → BeginsWith (λ c. not (is_line_end c)) y → Closes plain_ends y
+pub closes_no_line : {X : Type 0} (y : List ℕ) → BeginsWith (λ c. not (is_line_end c)) y
+    → Closes plain_ends y
     → X
 closes_no_line [] begins h = absurd (false≢true (sym begins))
 closes_no_line (c ∷ y) begins h =
     absurd (both_ways (is_line_end c) (not-true (is_line_end c) begins) (closes_line_end c h))
+
+-- what a string stands before: what closes it; or a note, behind a blank
+pub data StrEnds (ends : Ends) (s r : List ℕ) : Type 0 where
+  closed : Closes ends r → StrEnds ends s r
+  before_mark : ends.notes ≡ true → ((d : ℕ) → is_blank (last_or d s) ≡ true)
+      → begins is_comment_mark r ≡ true
+      → StrEnds ends s r
+
+pub str_ends : {e : Backslash} {ends : Ends} {s r v : List ℕ} → Str e ends s r v → StrEnds ends s r
+str_ends (Str.closed row h) = StrEnds.closed h
+str_ends {ends = ends} {r = r} (Str.before_note {s} c row n inside note) =
+    let parts = note_parts ends c r note in
+    StrEnds.before_mark parts.0 (λ d. ap is_blank (last_or_append d c s) ∙ parts.1) parts.2
+str_ends (Str.lone special row h) = StrEnds.closed h
+
+ends_behind : {ends : Ends} {s r : List ℕ} (w : List ℕ) → StrEnds ends s r → StrEnds ends (w ++ s) r
+ends_behind w (StrEnds.closed h) = StrEnds.closed h
+ends_behind {s = s} w (StrEnds.before_mark on last mark) =
+    StrEnds.before_mark on (λ d. ap is_blank (last_or-append d w s) ∙ last (last_or d w)) mark
+
+pub key_ends_so : {o : ParseOption} {b k r key : List ℕ} → KeyFront o b k r key
+    → StrEnds (noted_key_ends o) k r
+key_ends_so (KeyFront.unindented begins str) = str_ends str
+key_ends_so (KeyFront.indented {w = w} i begins str) = ends_behind w (str_ends str)
+
+-- so what closes it follows it where no note does
+no_mark : (y : List ℕ) → BeginsWithNo is_comment_mark y → begins is_comment_mark y ≡ false
+no_mark [] h = refl
+no_mark (c ∷ y) h = h
+
+pub ends_closed : {ends : Ends} {s y : List ℕ} (f : List ℕ) → NoNoteAfter (f ++ s) y → StrEnds ends s y
+    → Closes ends y
+ends_closed f apart (StrEnds.closed h) = h
+ends_closed {s = s} {y = y} f (inl none) (StrEnds.before_mark on last mark) =
+    absurd (both_ways (begins is_comment_mark y) (no_mark y none) mark)
+ends_closed {s = s} f (inr one) (StrEnds.before_mark on last mark) =
+    let d = last_or (last_or line_feed f) s in
+    let feed : is_line_feed d ≡ true = ap is_line_feed (sym (last_or-append line_feed f s)) ∙ one in
+    absurd (false≢true (subst (λ z. is_blank z ≡ true) (eqb-true d 0x0A feed) (last (last_or line_feed f))))
+
+-- nor does a key alone stand before one
+pub lone_no_line : {X : Type 0} {o : ParseOption} {b k key : List ℕ} (f y : List ℕ)
+    → BeginsWith (λ c. not (is_line_end c)) y → NoNoteAfter (f ++ k) y → KeyFront o b k y key
+    → BeginsWithNo is_separator y → X
+lone_no_line f [] begins apart front next = absurd (false≢true (sym begins))
+lone_no_line {o = o} f (c ∷ y) begins apart front next =
+    absurd (both_ways (is_separator c) next
+    (key_end_separates o.line_without_separator c (ends_closed f apart (key_ends_so front))
+    (not-true (is_line_end c) begins)))
 
 y_some : {c y : List ℕ} → FollowsFront c y → y ≢ []
 y_some f e = false≢true (sym (subst (BeginsWith (λ c. not (is_line_end c))) e f.some))
@@ -82,22 +143,25 @@ quiet_before {b = b} x f (Quiet.before_header {w = w} i) = elim f.bracket [
   | inr one ↦ absurd (blank_no_column b w i.some i.blank one)
 ]
 quiet_before x f (Quiet.at_end tail) = absurd (y_some f refl)
-quiet_before {y = y} x f (Quiet.at_line_end on front noted) = note_ahead y noted f.some
+quiet_before {y = y} x f (Quiet.at_line_end front noted) = note_ahead y noted f.some
 
 pub nothing_before : {o : ParseOption} {b s y : List ℕ} {gives : List Given} (x : List ℕ)
     → FollowsFront (b ++ s) y → gives ≡ [] → Element o b s y gives → Element o b s x gives
 nothing_before {o} {b} {s} x f none e =
     subst (Element o b s x) (sym none) (quiet_before x f (as_quiet e none))
 
-pub header_before : {o : ParseOption} {b c s y name : List ℕ} (x : List ℕ) → FollowsFront c y
-    → IsHeader o s y name → Element o b s x (Header name ∷ [])
-header_before x f (IsHeader.plain off str) = Element.header off (Str-alike Alike.same str)
-header_before {y = y} x f (IsHeader.bracketed on str i) = at y f str
+pub header_before : {o : ParseOption} {b s y name : List ℕ} (f x : List ℕ)
+    → BeginsWith (λ c. not (is_line_end c)) y → NoNoteAfter (f ++ s) y → IsHeader o s y name
+    → Element o b s x (Header name ∷ [])
+header_before f x some apart (IsHeader.plain off str) = Element.header off (Str-alike Alike.same str)
+header_before {o} {y = y} f x some apart (IsHeader.bracketed {s = s} on str i) =
+    at y some (ends_closed (f ++ open_bracket ∷ [])
+    (subst (λ z. NoNoteAfter z y) (sym (append_assoc f (open_bracket ∷ []) s)) apart) (str_ends str))
   where
-    at : {X : Type 0} {c s v : List ℕ} {e : Backslash} (y : List ℕ) → FollowsFront c y
-        → Str e bracketed_name_ends s y v → X
-    at [] f str = absurd (y_some f refl)
-    at (d ∷ y) f (Str.closed row h) = closes_no_line (d ∷ y) f.some h
+    at : {X : Type 0} (y : List ℕ) → BeginsWith (λ c. not (is_line_end c)) y
+        → Closes (noted o bracketed_name_ends) y → X
+    at [] some h = absurd (false≢true (sym some))
+    at (d ∷ y) some h = closes_no_line (d ∷ y) some h
 
 module _ {o : ParseOption} {x : List ℕ} (follows : Follows o x) where
   module _ (on : o.enabled_indented_mutiline_value ≡ true) where
@@ -139,16 +203,18 @@ module _ {o : ParseOption} {x : List ℕ} (follows : Follows o x) where
       TrailingLines.lines on (LineEnd-before t x _ (follows.no_line_end on) end)
       (MoreLines-before on (y_some f) more) all
 
-  pub Element-before : {b s y : List ℕ} {gives : List Given} → FollowsFront (b ++ s) y → Element o b s y gives
+  pub Element-before : {b s y : List ℕ} {gives : List Given} → FollowsFront (b ++ s) y
+      → Element o b s y gives
       → Element o b s x gives
   Element-before {b = b} {y = y} f e = at f (shape e)
     where
       at : {s : List ℕ} {gives : List Given} → FollowsFront (b ++ s) y → Shape o b s y gives
           → Element o b s x gives
       at f (Shape.quiet q) = quiet_before x f q
-      at f (Shape.header h) = header_before x f h
+      at f (Shape.header h) = header_before b x f.some f.note h
       at f (Shape.pair front some sep given) =
           Element.pair (KeyFront-alike Alike.same front) some sep (value_before f given)
+      at f (Shape.lone_key may_be front some next) = lone_no_line b y f.some f.note front next
 
   -- elements up to the front c, before x in place of y, and then further elements
   pub Reads-before_line : {T b c d : List ℕ} {items others : List Given} (y : List ℕ) → FollowsFront c y
@@ -189,6 +255,7 @@ key_follows {b = b} r (KeyFront.unindented {s = s} begins str) = at (s ++ r) beg
         record {
           some = begins_no_line_end c (or_parts (is_whitespace c) (is_comment_mark c) parts.0).0;
           bracket = inl parts.1;
+          note = inl (or_parts (is_whitespace c) (is_comment_mark c) parts.0).1;
         }
 key_follows {b = b} r (KeyFront.indented {w = w} {s = s} i begins str) = at w i.some
   where
@@ -200,6 +267,8 @@ key_follows {b = b} r (KeyFront.indented {w = w} {s = s} i begins str) = at w i.
       bracket =
           inl (false_from_ne_true (eqb c open_bracket)
           (λ q. false≢true (subst (λ z. is_blank z ≡ true) (eqb-true c open_bracket q) h)));
+      note = inl (false_from_ne_true (is_comment_mark c)
+          (λ mark. both_ways (is_blank c) (comment_mark-apart c mark).0 h));
     }
 
 -- what follows a multiline value

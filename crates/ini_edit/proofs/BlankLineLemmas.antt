@@ -6,13 +6,13 @@ use Rattle.std.proofs.lemmas.Bool.{and_parts, both_ways}
 use Rattle.std.proofs.lemmas.Bool.{false≢true}
 use Rattle.std.specs.List.{list_all}
 use Rattle.ini_text.specs.Grammar.CharacterKinds.{BeginsWithNo, carriage_return}
-use Rattle.ini_text.specs.Grammar.CharacterKinds.{is_blank, is_inline_white, is_line_end}
+use Rattle.ini_text.specs.Grammar.CharacterKinds.{is_blank, is_comment_mark, is_inline_white, is_line_end}
 use Rattle.ini_text.specs.Grammar.CharacterKinds.{is_line_feed, line_feed}
 use Rattle.ini_text.specs.Grammar.Keys.{begins_note}
 use Rattle.ini_text.specs.Grammar.Places.{TrailingLines}
 use Rattle.ini_text.specs.Grammar.Positions.{last_or}
 use Rattle.ini_text.specs.Grammar.Values.{MoreLines}
-use Rattle.ini_text.specs.Inside.PlainTests.{begins}
+use Rattle.ini_text.specs.Grammar.CharacterKinds.{begins}
 use Rattle.ini_text.specs.Options.Backslashes.{begins_escape}
 use Rattle.ini_text.specs.Options.ReadOptions.{backslash_of}
 use Rattle.ini_text.specs.declared.option.ParseOption.{ParseOption}
@@ -123,11 +123,13 @@ ends_by false true z p other h = refl
 ends_by false false z p other h = absurd (both_ways (is_line p) other h)
 
 pub inside_apart : (o : ParseOption) (c : ℕ) → is_line (next_within o c) ≡ false
-inside_apart o c = at (begins_escape (backslash_of o) c)
+inside_apart o c = at (begins_escape (backslash_of o) c) (is_blank c)
   where
-    at : (b : Bool) → is_line (if b then LinePlace.escape else LinePlace.within) ≡ false
-    at true = refl
-    at false = refl
+    at : (b d : Bool) → is_line (if b then LinePlace.escape
+        else (if d then LinePlace.space else LinePlace.within)) ≡ false
+    at true d = refl
+    at false true = refl
+    at false false = refl
 
 pub other_place : (b : Bool) (p q : LinePlace) → is_line p ≡ false → is_line q ≡ false
     → is_line (if b then p else q) ≡ false
@@ -146,6 +148,10 @@ next_ends o LinePlace.lead c cs h =
     (other_place (begins_note o c) LinePlace.note (next_within o c) refl (inside_apart o c))) h
 next_ends o LinePlace.within c cs h =
     ends_by (is_line_feed c) (c == carriage_return) (not (begins is_line_feed cs)) _ (inside_apart o c) h
+next_ends o LinePlace.space c cs h =
+    ends_by (is_line_feed c) (c == carriage_return) (not (begins is_line_feed cs)) _
+    (other_place (o.enabled_inline_comment && is_comment_mark c) LinePlace.note (next_within o c) refl
+    (inside_apart o c)) h
 next_ends o LinePlace.escape c cs h = absurd (false≢true h)
 next_ends o LinePlace.note c cs h =
     ends_by (is_line_feed c) (c == carriage_return) (not (begins is_line_feed cs)) _
@@ -172,6 +178,7 @@ quiet_all o p (c ∷ cs) =
     at LinePlace.line false is rest = rest
     at LinePlace.lead b is rest = rest
     at LinePlace.within b is rest = rest
+    at LinePlace.space b is rest = rest
     at LinePlace.escape b is rest = rest
     at LinePlace.note b is rest = rest
 
@@ -200,6 +207,7 @@ own_ends o p (c ∷ cs) own some whole =
         at LinePlace.line h = h
         at LinePlace.lead h = h
         at LinePlace.within h = h
+        at LinePlace.space h = h
         at LinePlace.escape h = h
         at LinePlace.note h = h
     same [] whole ends = at p ends
@@ -221,6 +229,9 @@ own_ends o p (c ∷ cs) own some whole =
             else (if begins_note o c then LinePlace.note else next_within o c)) h
         at LinePlace.within h =
             more (is_line_feed c) (c == carriage_return) (begins is_line_feed cs) (next_within o c) h
+        at LinePlace.space h =
+            more (is_line_feed c) (c == carriage_return) (begins is_line_feed cs)
+            (if o.enabled_inline_comment && is_comment_mark c then LinePlace.note else next_within o c) h
         at LinePlace.escape h = h
         at LinePlace.note h =
             more (is_line_feed c) (c == carriage_return) (begins is_line_feed cs)

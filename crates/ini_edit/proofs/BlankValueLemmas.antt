@@ -8,12 +8,12 @@ use Rattle.std.specs.List.{list_all}
 use Rattle.ini_text.specs.Grammar.CharacterKinds.{BeginsWith, BeginsWithNo, carriage_return, is_blank}
 use Rattle.ini_text.specs.Grammar.CharacterKinds.{is_comment_mark, is_inline_white, is_line_end, is_line_feed}
 use Rattle.ini_text.specs.Grammar.CharacterKinds.{line_feed}
-use Rattle.ini_text.specs.Grammar.Lines.{BeginsPlain, Line, Quoted}
+use Rattle.ini_text.specs.Grammar.Lines.{BeginsPlain, Line, LineTail, LineText, Quoted}
 use Rattle.ini_text.specs.Grammar.Positions.{last_or}
 use Rattle.ini_text.specs.Grammar.Strings.{Closes, Row, Str, plain_ends}
 use Rattle.ini_text.specs.Grammar.Values.{GoesOn, LineEnd, MoreLines}
 use Rattle.ini_text.specs.Grammar.WhiteSpace.{Lead}
-use Rattle.ini_text.specs.Inside.PlainTests.{begins}
+use Rattle.ini_text.specs.Grammar.CharacterKinds.{begins}
 use Rattle.ini_text.specs.declared.option.ParseOption.{ParseOption}
 use Rattle.ini_text.proofs.GrammarLemmas.KindLemmas.{blank_inline, line_end_no_blank}
 use Rattle.ini.specs.Texts.{Text}
@@ -81,7 +81,9 @@ module _ {o : ParseOption} where
         text = λ on. no_comment end (t ++ x);
       } in
       let line : Line o false [] (e ++ (t ++ x)) [] =
-      Line.line Quoted.none (no_mark o end (t ++ x)) (Str.closed Row.none (closes end (t ++ x))) in
+      Line.line
+      (LineText.text Quoted.none (no_mark o end (t ++ x)) (Str.closed Row.none (closes end (t ++ x))))
+      (LineTail.none (closes end (t ++ x))) in
       record {
         value = line_feed ∷ b.value;
         are = MoreLines.continued {l = []} goes line end b.are;
@@ -91,7 +93,8 @@ module _ {o : ParseOption} where
   last_line : (w : Text) → BeginsWith is_blank w → list_all is_blank w ≡ true → AreBlank o (w ++ []) []
   last_line w some all =
       let lead : Lead w [] = record { white = all_inline w all; ends = tt } in
-      let line : Line o false [] [] [] = Line.line Quoted.none (λ on. tt) (Str.closed Row.none refl) in
+      let line : Line o false [] [] [] =
+      Line.line (LineText.text Quoted.none (λ on. tt) (Str.closed Row.none refl)) (LineTail.none refl) in
       let goes : GoesOn o w [] = record { begins = some; lead = lead; text = λ on. tt } in
       record { value = line_feed ∷ []; are = MoreLines.last {l = []} goes line; all = refl }
 

@@ -12,9 +12,7 @@ use Rattle.ini_text.specs.Options.ReadOptions.{backslash_of}
 use Rattle.ini_text.specs.declared.option.ParseOption.{ParseOption}
 use Rattle.ini.specs.Texts.{Text}
 use Rattle.ini_edit.specs.Endings.{Ending, ending, ending_from, next_ending}
-use Rattle.ini_edit.proofs.EndedLemmas.{line_end-some-after}
-use Rattle.ini_edit.proofs.EndingLemmas.{ending-lead, ending-line, ending-white, ending_from-append}
-use Rattle.ini_edit.proofs.ValueLemmas.{IsSourceOf}
+use Rattle.ini_edit.proofs.EndingLemmas.{ending-lead, ending-text, ending_from-append}
 
 -- the ends of texts that take nothing that follows
 data IsOpen : Ending → Type 0 where
@@ -35,32 +33,36 @@ after_end o Ending.inside t (LineEnd.cr n) rest = rest Ending.inside IsOpen.insi
 after_end o Ending.line t (LineEnd.cr n) rest = rest Ending.inside IsOpen.inside
 after_end o Ending.escape t (LineEnd.cr n) rest = rest Ending.inside IsOpen.inside
 
+-- a line, in which a note may stand, before its end
+line_ends : (o : ParseOption) {e y : Text} (l t : Text) → LineEnd e y
+    → ((f : Ending) → IsOpen f → ending_from o f t ≡ Ending.inside)
+    → ending_from o Ending.inside (l ++ (e ++ t)) ≡ Ending.inside
+line_ends o {e} l t le rest =
+    ending_from-append o Ending.inside l (e ++ t) ∙ after_end o (ending_from o Ending.inside l) t le rest
+
 module _ {o : ParseOption} where
   last_ends : {t r : Text} → r ≢ [] → LastLine o t r → (e : Ending) → IsOpen e
       → ending_from o e t ≡ Ending.inside
   last_ends some (LastLine.last {w} {l} goes ln _) e is =
       ap (λ z. ending_from o e (w ++ z)) (sym (append-nil l))
-      ∙ ending-lead o e w (l ++ []) goes.begins goes.lead.white ∙ ending-line [] some ln
+      ∙ ending-lead o e w (l ++ []) goes.begins goes.lead.white ∙ ending-text [] some ln
   last_ends some (LastLine.empty_lf m) Ending.inside is = last_ends some m Ending.line IsOpen.line
   last_ends some (LastLine.empty_lf m) Ending.line is = last_ends some m Ending.line IsOpen.line
   last_ends some (LastLine.empty_lf m) Ending.escape is = elim is [ ]
   last_ends some (LastLine.empty_cr_lf m) Ending.inside is = last_ends some m Ending.line IsOpen.line
   last_ends some (LastLine.empty_cr_lf m) Ending.line is = last_ends some m Ending.line IsOpen.line
   last_ends some (LastLine.empty_cr_lf m) Ending.escape is = elim is [ ]
-  last_ends some (LastLine.continued {w} {l} {e = x} {t} {r} goes ln le m) e is =
+  last_ends some (LastLine.continued {w} {l} {e = x} {t} goes ln le m) e is =
       ending-lead o e w (l ++ (x ++ t)) goes.begins goes.lead.white
-      ∙ ending-line (x ++ t) (line_end-some-after (t ++ r) (t ++ r) le) ln
-      ∙ after_end o Ending.inside t le (last_ends some m)
+      ∙ line_ends o l t le (last_ends some m)
   last_ends some (LastLine.comment {s} {e = x} {t} noted le m) e is =
       ending_from-append o e s (x ++ t) ∙ after_end o (ending_from o e s) t le (last_ends some m)
 
   -- a value's own lines that something follows
   pub own_ends : {l r : Text} → r ≢ [] → OwnLines o l r → ending_from o Ending.inside l ≡ Ending.inside
   own_ends {l} some (OwnLines.first ln) =
-      ap (ending_from o Ending.inside) (sym (append-nil l)) ∙ ending-line [] some ln
-  own_ends some (OwnLines.more {l} {e} {t} {r} ln le m) =
-      ending-line (e ++ t) (line_end-some-after (t ++ r) (t ++ r) le) ln
-      ∙ after_end o Ending.inside t le (last_ends some m)
+      ap (ending_from o Ending.inside) (sym (append-nil l)) ∙ ending-text [] some ln
+  own_ends some (OwnLines.more {l} {e} {t} ln le m) = line_ends o l t le (last_ends some m)
 
 -- a text ends so where a line starts before it too
 pub escape_inside : (o : ParseOption) (t : Text) → ending o t ≡ Ending.escape
@@ -99,16 +101,3 @@ closed_space o (SpaceAfter.bare {raw_value} bare white) h =
     absurd (both_ways (ends_bare (backslash_of o) raw_value)
     (ap not (or_right (is_inline_white (last_or line_feed raw_value)) _ slash)) bare)
 closed_space o (SpaceAfter.escaped front white special all) h = refl
-
--- no value's line that is read before a line end ends so
-pub source_closed : {o : ParseOption} {source value : Text} → IsSourceOf o source value
-    → ending o source ≢ Ending.escape
-source_closed {o} {source} is h =
-    let x = is.line [] [] (line_feed ∷ []) refl refl refl in
-    let whole : source ≡ x.lead ++ x.line = sym (append-nil source) ∙ x.whole in
-    let ends : ending_from o Ending.inside source ≡ Ending.inside =
-    ap (ending_from o Ending.inside) whole ∙ ending-white o x.lead x.line x.is_lead.white
-    ∙ ap (ending_from o Ending.inside) (sym (append-nil x.line))
-    ∙ ending-line [] (λ e. absurd (let no : line_feed ∷ [] ≡ [] = e in cc)) x.is_line in
-    let no : Ending.inside ≡ Ending.escape = sym ends ∙ escape_inside o source h in
-    cc

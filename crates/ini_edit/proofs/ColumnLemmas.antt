@@ -5,7 +5,7 @@ use Rattle.std.proofs.lemmas.Bool.{cond-false, cond-true}
 use Rattle.std.proofs.lemmas.List.{drop_all}
 use Rattle.ini.specs.Texts.{Text}
 use Rattle.ini_text.specs.Grammar.CharacterKinds.{space}
-use Rattle.ini_edit.specs.SourceLayout.{Rules, aligned_key, joins, laid_key, run_column}
+use Rattle.ini_edit.specs.SourceLayout.{Rules, aligned_key, joins, key_width, run_column}
 use Rattle.ini_edit.specs.Sources.{PairPiece}
 use Rattle.ini_edit.proofs.LayoutLemmas.{here}
 
@@ -13,7 +13,7 @@ module _ (r : Rules) (ps : List PairPiece) (i : ℕ) where
   -- the column of pairs, of which one more is looked at
   pub run_step : (p : PairPiece) (column : ℕ) {width next whole : ℕ} {joined : Bool} → i < length ps
       → p ≡ get_or ps i p → max column (run_column r (drop i ps)) ≡ whole
-      → width ≡ length (laid_key r true p.stretches.key) → next ≡ max column width → joined ≡ joins r p
+      → width ≡ key_width r p → next ≡ max column width → joined ≡ joins r p
       → joined ≡ true → max next (run_column r (drop (i + 1) ps)) ≡ whole
   run_step p column {width} {next} within is so_far width_is next_is joined_is goes_on =
       let rest = run_column r (drop (i + 1) ps) in
@@ -24,7 +24,7 @@ module _ (r : Rules) (ps : List PairPiece) (i : ℕ) where
 
   pub run_stop : (p : PairPiece) (column : ℕ) {width next whole : ℕ} {joined : Bool} → i < length ps
       → p ≡ get_or ps i p → max column (run_column r (drop i ps)) ≡ whole
-      → width ≡ length (laid_key r true p.stretches.key) → next ≡ max column width → joined ≡ joins r p
+      → width ≡ key_width r p → next ≡ max column width → joined ≡ joins r p
       → joined ≡ false → next ≡ whole
   run_stop p column {width} {next} within is so_far width_is next_is joined_is ends =
       let at : run_column r (drop i ps) ≡ max width 0 =

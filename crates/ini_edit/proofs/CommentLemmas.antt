@@ -7,7 +7,7 @@ use Rattle.ini_text.specs.Grammar.CharacterKinds.{is_blank, is_comment_mark}
 use Rattle.ini_text.specs.Grammar.CharacterKinds.{BeginsWith}
 use Rattle.ini_text.specs.Grammar.Elements.{Given, Element}
 use Rattle.ini_text.specs.Grammar.Keys.{Indentation, KeyFront, begins_key}
-use Rattle.ini_text.specs.Inside.PlainTests.{begins}
+use Rattle.ini_text.specs.Grammar.CharacterKinds.{begins}
 use Rattle.ini_text.specs.declared.option.ParseOption.{ParseOption}
 use Rattle.ini_text.proofs.GrammarLemmas.KindLemmas.{comment_mark-apart}
 use Rattle.ini.specs.Texts.{Text}
@@ -51,7 +51,7 @@ front_comment {r = r} (QuietFront.blanks {w = w} t i) m =
     no_indent (t ++ r) i (subst (BeginsWith is_comment_mark) (append_assoc w t r) m)
 front_comment (QuietFront.white {c = c} q n) m =
     absurd (both_ways (is_whitespace c) (comment_mark-apart c m).1 q)
-front_comment (QuietFront.comment starts mark is) m = is
+front_comment (QuietFront.comment mark is) m = is
 
 module _ {o : ParseOption} {b : Text} where
   pub is_comment : {s r : Text} {gives : List Given} → BeginsWith is_comment_mark (s ++ r)
@@ -65,6 +65,7 @@ module _ {o : ParseOption} {b : Text} where
       at (Shape.header (IsHeader.bracketed on str i)) m = absurd (false≢true m)
       at {r = r} (Shape.pair {k = k} {s = s} {m = x} front some sep value) m =
           no_key front (subst (BeginsWith is_comment_mark) (append_assoc k (x ∷ s) r) m)
+      at (Shape.lone_key may_be front some next) m = no_key front m
 
   pub marked_comment : {s r : Text} {gives : List Given} → BeginsWith is_comment_mark s
       → Element o b s r gives
@@ -81,4 +82,4 @@ module _ {o : ParseOption} {b : Text} where
       at : {s r : Text} {gives : List Given} → IsComment o b s r gives → gives ≡ []
       at (IsComment.whole s one mark all) = refl
       at (IsComment.last one mark all) = refl
-      at (IsComment.after_cr on starts late remark) = refl
+      at (IsComment.alone may late remark) = refl

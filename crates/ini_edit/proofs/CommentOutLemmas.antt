@@ -2,33 +2,36 @@
 use Rattle.std.proofs.Common.{◌≡◌, ◌≢◌, ◌∙◌, ◌==◌, ◌&&◌, ℕ, Bool, true, false, not, [], ◌∷◌}
 use Rattle.std.proofs.Common.{◌++◌, ap, append_assoc, append-nil, eqb-true, if◌then◌else◌, inl, inr, refl}
 use Rattle.std.proofs.Common.{subst, sym}
-use Rattle.std.proofs.lemmas.Bool.{both_ways, false≢true, or_cases}
-use Rattle.ini_text.specs.Grammar.CharacterKinds.{BeginsWithNo, carriage_return, is_line_end}
+use Rattle.std.proofs.lemmas.Bool.{and_parts, both_ways, false≢true, or_cases}
+use Rattle.ini_text.specs.Grammar.CharacterKinds.{BeginsWithNo, carriage_return, is_comment_mark, is_line_end}
 use Rattle.ini_text.specs.Grammar.CharacterKinds.{is_line_feed, line_feed, semicolon, space}
 use Rattle.ini_text.specs.Grammar.Places.{Stretches, TrailingLines, pair_source}
 use Rattle.ini_text.specs.Grammar.Positions.{last_or}
 use Rattle.ini_text.specs.Grammar.Strings.{Closes, plain_ends}
 use Rattle.ini_text.specs.Grammar.Values.{LineEnd}
+use Rattle.ini_text.specs.Inside.LineReader.{past_note}
 use Rattle.ini_text.specs.Laws.PieceLaws.{Agree}
 use Rattle.ini_text.specs.Parsing.Fronts.{front_of}
 use Rattle.ini_text.specs.declared.option.ParseOption.{ParseOption}
 use Rattle.ini_text.proofs.LawLemmas.PieceLemmas.{last_or-append}
+use Rattle.ini_text.proofs.ReaderLemmas.LineReaderLemmas.{TextEnds}
 use Rattle.ini_text.proofs.StringLemmas.FrontLemmas.{front_is}
 use Rattle.ini.specs.Texts.{Text, is_text}
 use Rattle.ini_edit.specs.Inside.Spans.{IsGap, IsPair}
 use Rattle.ini_edit.specs.SourceEditsComments.{marked, pair_line, pair_lines}
-use Rattle.ini_edit.specs.SourceEditsDelete.{gap_after, line_end_after, lines_after}
+use Rattle.ini_edit.specs.SourceEditsDelete.{after_own, gap_after, line_end_after, lines_after}
 use Rattle.ini_edit.specs.SourceLines.{LinePlace, after_line_end, ends_in_line, line_end_at_end}
 use Rattle.ini_edit.specs.SourceLines.{quiet_lines_at_end}
-use Rattle.ini_edit.specs.Sources.{PairPiece}
-use Rattle.ini_edit.proofs.AheadLemmas.{value_closes}
+use Rattle.ini_edit.specs.Sources.{PairPiece, has_separator, is_multiline}
 use Rattle.ini_edit.proofs.BlankLineLemmas.{line_last, trailing_ends}
 use Rattle.ini_edit.proofs.CommentLineLemmas.{longer_pair}
 use Rattle.ini_edit.proofs.CommentRowLemmas.{AreRows, IsNewLine, ends_row, marked_gap}
 use Rattle.ini_edit.proofs.DeletedLinesLemmas.{IsLineEnd, end_is, end_last, none_unended, own_of}
 use Rattle.ini_edit.proofs.DeletedLinesLemmas.{quiet_after}
-use Rattle.ini_edit.proofs.GapLemmas.{gap_cut, gap_join}
-use Rattle.ini_edit.proofs.SourceLineLemmas.{line_end_at_end-rest, quiet_lines_at_end-rest}
+use Rattle.ini_edit.proofs.GapLemmas.{gap_join}
+use Rattle.ini_edit.proofs.LineCutLemmas.{OwnCut, own_cut, past_nothing, text_closes}
+use Rattle.ini_edit.proofs.PairViewLemmas.{goes_on, one_line}
+use Rattle.ini_edit.proofs.SourceLineLemmas.{front_of_none, line_end_at_end-rest, quiet_lines_at_end-rest}
 use Rattle.ini_edit.proofs.SourceSetLemmas.{before_nothing, last_agrees}
 use Rattle.ini_edit.proofs.ValueLemmas.{closes_line_end}
 
@@ -79,53 +82,16 @@ commented_is {o} {d} {p} {b} {ls} following one (CommentedOut.to_end none whole)
           (sym nothing) before_nothing;
     }
 
--- a gap after a value that ends with its line: nothing, or its line end and the rest
-data GapEnds (b r : Text) : Text → Type 0 where
-  nothing : b ≡ [] → r ≡ [] → GapEnds b r []
-  line_end : {e : Text} → b ≡ e ++ after_line_end b → IsNewLine e → GapEnds b r e
+-- the line end of lines that is no CR alone is written as one
+new_line_of : {e r : Text} → LineEnd e r → is_text e (carriage_return ∷ []) ≡ false → IsNewLine e
+new_line_of LineEnd.lf apart = IsNewLine.lf
+new_line_of LineEnd.cr_lf apart = IsNewLine.cr_lf
+new_line_of (LineEnd.cr n) apart = absurd (false≢true (sym apart))
 
--- the line end that begins a gap
-abbrev begun_end : Text → Text
-begun_end b = line_end_at_end (front_of b (after_line_end b))
-
-after_return : (b r : Text)
-    → is_text (begun_end (carriage_return ∷ b)) (carriage_return ∷ []) ≡ false
-    → GapEnds (carriage_return ∷ b) r (begun_end (carriage_return ∷ b))
-after_return [] r apart = absurd (false≢true (sym apart))
-after_return (x ∷ b) r apart = at (is_line_feed x) refl apart
-  where
-    at : (f : Bool) → is_line_feed x ≡ f
-        → is_text (line_end_at_end (front_of (carriage_return ∷ x ∷ b) (if f then b else x ∷ b)))
-        (carriage_return ∷ []) ≡ false
-        → GapEnds (carriage_return ∷ x ∷ b) r
-        (line_end_at_end (front_of (carriage_return ∷ x ∷ b) (if f then b else x ∷ b)))
-    at true is apart =
-        subst (λ y. GapEnds (carriage_return ∷ y ∷ b) r
-        (line_end_at_end (front_of (carriage_return ∷ y ∷ b) b))) (sym (eqb-true x line_feed is))
-        (subst (GapEnds (carriage_return ∷ line_feed ∷ b) r)
-        (sym (ap line_end_at_end (front_is (carriage_return ∷ line_feed ∷ []) b
-        (carriage_return ∷ line_feed ∷ b) refl)))
-        (GapEnds.line_end refl IsNewLine.cr_lf))
-    at false is apart =
-        let alone : line_end_at_end (front_of (carriage_return ∷ x ∷ b) (x ∷ b)) ≡ carriage_return ∷ [] =
-        ap line_end_at_end (front_is (carriage_return ∷ []) (x ∷ b) (carriage_return ∷ x ∷ b) refl) in
-        absurd (false≢true (sym (subst (λ e. is_text e (carriage_return ∷ []) ≡ false) alone apart)))
-
-gap_ends : (b r : Text) → Closes plain_ends (b ++ r) → BeginsWithNo is_line_end r
-    → is_text (begun_end b) (carriage_return ∷ []) ≡ false → GapEnds b r (begun_end b)
-gap_ends [] [] closes none apart = GapEnds.nothing refl refl
-gap_ends [] (c ∷ r) closes none apart = absurd (both_ways (is_line_end c) none (closes_line_end c closes))
-gap_ends (c ∷ b) r closes none apart =
-    elim (or_cases (is_line_feed c) (c == carriage_return) (closes_line_end c closes)) [
-      | inl q ↦ subst (λ c. GapEnds (c ∷ b) r (begun_end (c ∷ b))) (sym (eqb-true c line_feed q))
-          (subst (GapEnds (line_feed ∷ b) r)
-          (sym (ap line_end_at_end (front_is (line_feed ∷ []) b (line_feed ∷ b) refl)))
-          (GapEnds.line_end refl IsNewLine.lf))
-      | inr q ↦
-          subst (λ c. is_text (begun_end (c ∷ b)) (carriage_return ∷ []) ≡ false
-          → GapEnds (c ∷ b) r (begun_end (c ∷ b))) (sym (eqb-true c carriage_return q))
-          (after_return b r) apart
-    ]
+-- what closes a line and doesn't begin with its end is nothing
+nothing_closes : (r : Text) → Closes plain_ends r → BeginsWithNo is_line_end r → r ≡ []
+nothing_closes [] closes none = refl
+nothing_closes (c ∷ r) closes none = absurd (both_ways (is_line_end c) none (closes_line_end c closes))
 
 -- the line end of lines after a value: the text ends without one
 abbrev end_of_lines : (o : ParseOption) → Text → Text
@@ -196,39 +162,34 @@ module _ {o : ParseOption} (on : o.enabled_indented_mutiline_value ≡ true) {t 
 line_then : (p : Stretches) → pair_line p ++ p.trailing_lines ≡ pair_source p
 line_then p = longer_pair p.trailing_lines (record p { trailing_lines = [] })
 
-no_trailing : {o : ParseOption} {t r : Text} → o.enabled_indented_mutiline_value ≡ false
-    → TrailingLines o t r → t ≡ []
-no_trailing off (TrailingLines.line _ closes) = refl
-no_trailing {o} off (TrailingLines.end on) = absurd (both_ways o.enabled_indented_mutiline_value off on)
-no_trailing {o} off (TrailingLines.lines on end more all) =
-    absurd (both_ways o.enabled_indented_mutiline_value off on)
-
--- the parts of what follows a pair's value, where values are multiline, and where they are in one line
-module _ (o : ParseOption) (on : Bool) (p : PairPiece) where
+-- the parts of what follows a pair's value, where it goes on over lines, and where it is in one line
+module _ (o : ParseOption) (on multiline : Bool) (p : PairPiece) where
   abbrev lines_of : Text
-  lines_of = if on then quiet_lines_at_end o p.stretches.trailing_lines else after_line_end p.after
+  lines_of =
+      if on then quiet_lines_at_end o p.stretches.trailing_lines
+      else (if multiline then [] else after_own o p)
 
   abbrev gap_part : Text
-  gap_part = if on then p.after else []
+  gap_part = if on then p.after else (if multiline then after_own o p else [])
 
   abbrev own_part : Text
-  own_part = if on then front_of p.stretches.trailing_lines lines_of else front_of p.after lines_of
+  own_part = if on then front_of p.stretches.trailing_lines lines_of else front_of p.after (after_own o p)
 
   abbrev end_part : Text
   end_part = if on && not (ends_in_line o own_part) then [] else line_end_at_end own_part
 
   abbrev line_part : Text
-  line_part = pair_line p.stretches ++ (if on then front_of own_part end_part else [])
+  line_part = pair_line p.stretches ++ front_of own_part end_part
 
 -- a pair in its place, with the gap after it, is made comments
 pub pair_commented : {o : ParseOption} {d : ℕ} (p : PairPiece) (r : Text)
     → IsPair o d p.stretches p.key p.value (p.after ++ r)
     → IsGap o (last_or d (pair_source p.stretches)) p.after r → BeginsWithNo is_line_end r
-    → is_text (line_end_after o p) (carriage_return ∷ []) ≡ false
+    → BeginsWithNo is_comment_mark r → is_text (line_end_after o p) (carriage_return ∷ []) ≡ false
     → CommentedOut o p.stretches p.after r (pair_lines o p)
     (line_end_after o p ++ (lines_after o p ++ gap_after o p))
-pair_commented {o} {d} p r is g none apart =
-    at o.enabled_indented_mutiline_value refl apart
+pair_commented {o} {d} p r is g none unmarked apart =
+    at (is_multiline o p) refl o.enabled_indented_mutiline_value apart
   where
     t : Text
     t = p.stretches.trailing_lines
@@ -239,36 +200,72 @@ pair_commented {o} {d} p r is g none apart =
     Made : (ls rest : Text) → Type 0
     Made ls rest = CommentedOut o p.stretches p.after r ls rest
 
-    one_line : o.enabled_indented_mutiline_value ≡ false → {e : Text} → GapEnds p.after r e
-        → Made (pair_line p.stretches ++ []) (e ++ (after_line_end p.after ++ []))
-    one_line off ends = by ends
+    -- in one line, with a note behind a key alone
+    after : Text
+    after = after_own o p
+
+    own : Text
+    own = front_of b after
+
+    line : Text
+    line = pair_line p.stretches
+
+    cut_lines : p.stretches.trailing_lines ≡ [] → OwnCut o (last_or d (pair_source p.stretches)) b r
+        → (b ≡ [] → r ≡ []) → is_text (line_end_at_end own) (carriage_return ∷ []) ≡ false
+        → Made (line ++ front_of own (line_end_at_end own)) (line_end_at_end own ++ (after ++ []))
+    cut_lines no_lines cut bare apart = by cut
       where
-        whole : pair_line p.stretches ++ [] ≡ pair_source p.stretches
-        whole = ap (λ x. pair_line p.stretches ++ x) (sym (no_trailing off is.are_trailing))
-            ∙ line_then p.stretches
+        whole : line ≡ pair_source p.stretches
+        whole = sym (append-nil line) ∙ ap (λ x. line ++ x) (sym no_lines) ∙ line_then p.stretches
 
-        by : {e : Text} → GapEnds p.after r e
-            → Made (pair_line p.stretches ++ []) (e ++ (after_line_end p.after ++ []))
-        by (GapEnds.nothing empty last) =
-            subst (Made (pair_line p.stretches ++ [])) (sym (ap (λ b. after_line_end b ++ []) empty))
-            (CommentedOut.to_end last (ap (λ b. pair_source p.stretches ++ b) empty
-            ∙ append-nil (pair_source p.stretches) ∙ sym whole))
-        by (GapEnds.line_end {e} parts end) =
-            let R = after_line_end p.after in
-            CommentedOut.with_end e
-            (ap (λ b. pair_source p.stretches ++ b) (parts ∙ ap (λ x. e ++ x) (sym (append-nil R)))
-            ∙ ap (λ x. x ++ (e ++ (R ++ []))) (sym whole))
-            end
-            (subst (λ x. IsGap o line_feed x r) (sym (append-nil R))
-            (cut end (subst (λ x. IsGap o (last_or d (pair_source p.stretches)) x r) parts g)))
-          where
-            cut : {c : ℕ} {e R : Text} → IsNewLine e → IsGap o c (e ++ R) r → IsGap o line_feed R r
-            cut IsNewLine.lf g = gap_cut (LineEnd.lf {r = []}) g
-            cut IsNewLine.cr_lf g = gap_cut (LineEnd.cr_lf {r = []}) g
+        -- the text ends with these
+        at_end : own ≡ b → line_end_at_end own ≡ [] → after ≡ [] → r ≡ []
+            → Made (line ++ front_of own (line_end_at_end own)) (line_end_at_end own ++ (after ++ []))
+        at_end own_is no_end no_rest last =
+            let lines : pair_source p.stretches ++ b ≡ line ++ front_of own (line_end_at_end own) =
+            ap (λ x. x ++ b) (sym whole)
+            ∙ ap (λ x. line ++ x) (sym (ap (front_of own) no_end ∙ front_of_none own ∙ own_is)) in
+            subst (Made (line ++ front_of own (line_end_at_end own)))
+            (sym (ap (λ x. x ++ (after ++ [])) no_end ∙ ap (λ x. x ++ []) no_rest))
+            (CommentedOut.to_end last lines)
 
-    many_lines : {e : Text} → o.enabled_indented_mutiline_value ≡ true → LinesEnd o t (b ++ r) e
+        by : OwnCut o (last_or d (pair_source p.stretches)) b r
+            → Made (line ++ front_of own (line_end_at_end own)) (line_end_at_end own ++ (after ++ []))
+        by (OwnCut.cut f e rest same head le one last is_rest) =
+            let own_is : own ≡ f = ap (front_of b) is_rest ∙ front_is f rest b (sym same) in
+            let end_is : line_end_at_end own ≡ e = ap line_end_at_end own_is ∙ one in
+            let new : IsNewLine e =
+            new_line_of le (subst (λ x. is_text x (carriage_return ∷ []) ≡ false) end_is apart) in
+            let front : front_of own (line_end_at_end own) ++ e ≡ f =
+            ap (λ x. front_of own (line_end_at_end own) ++ x) (sym end_is) ∙ line_end_at_end-rest own ∙ own_is in
+            let ls = line ++ front_of own (line_end_at_end own) in
+            let source : pair_source p.stretches ++ b ≡ ls ++ (e ++ (rest ++ [])) =
+            ap (λ x. x ++ b) (sym whole) ∙ ap (λ x. line ++ x) (same ∙ ap (λ x. x ++ rest) (sym front)
+            ∙ append_assoc (front_of own (line_end_at_end own)) e rest
+            ∙ ap (λ x. front_of own (line_end_at_end own) ++ (e ++ x)) (sym (append-nil rest)))
+            ∙ sym (append_assoc line (front_of own (line_end_at_end own)) (e ++ (rest ++ []))) in
+            let feed : last_or (last_or d (pair_source p.stretches)) f ≡ line_feed =
+            last (last_or d (pair_source p.stretches)) line_feed ∙ new_line_last line_feed new in
+            let left : IsGap o line_feed (rest ++ []) r =
+            subst (λ x. IsGap o line_feed x r) (sym (append-nil rest))
+            (subst (λ c. IsGap o c rest r) feed
+            (head.rest r (subst (λ x. IsGap o (last_or d (pair_source p.stretches)) x r) same g))) in
+            subst (Made ls) (ap (λ x. x ++ (rest ++ [])) (sym end_is)
+            ∙ ap (λ x. line_end_at_end own ++ (x ++ [])) (sym is_rest))
+            (CommentedOut.with_end e source new left)
+        by (OwnCut.noted some closes no_end is_rest heads) =
+            let own_is : own ≡ b = ap (front_of b) is_rest ∙ front_of_none b in
+            at_end own_is (ap line_end_at_end own_is ∙ no_end) is_rest (nothing_closes r closes none)
+        by (OwnCut.nothing empty) =
+            let no_rest : after ≡ [] =
+            ap (λ x. after_line_end (past_note o x)) empty ∙ ap after_line_end (past_nothing o) in
+            let own_is : own ≡ b = ap (front_of b) no_rest ∙ front_of_none b in
+            at_end own_is (ap line_end_at_end (own_is ∙ empty)) no_rest (bare empty)
+
+    many_lines : {e : Text} → o.enabled_indented_mutiline_value ≡ true → TrailingLines o t (b ++ r)
+        → LinesEnd o t (b ++ r) e
         → Made (pair_line p.stretches ++ front_of (own_of o t) e) (e ++ (quiet_lines_at_end o t ++ b))
-    many_lines on (LinesEnd.nothing empty last) =
+    many_lines on trailing_lines (LinesEnd.nothing empty last) =
         let parts = no_parts b r last in
         let own : own_of o t ≡ t =
         sym (append-nil (own_of o t)) ∙ ap (λ x. own_of o t ++ x) (sym empty)
@@ -286,7 +283,7 @@ pair_commented {o} {d} p r is g none apart =
         no_parts : (b r : Text) → b ++ r ≡ [] → (b ≡ []) × (r ≡ [])
         no_parts [] r h = (refl, h)
         no_parts (c ∷ b) r h = absurd (let no : c ∷ (b ++ r) ≡ [] = h in cc)
-    many_lines on (LinesEnd.line_end {e} whole end) =
+    many_lines on trailing_lines (LinesEnd.line_end {e} whole end) =
         let lines = quiet_lines_at_end o t in
         let own = front_of (own_of o t) e in
         let trailing : own ++ (e ++ lines) ≡ t =
@@ -302,10 +299,25 @@ pair_commented {o} {d} p r is g none apart =
         (ap (λ x. x ++ b) (sym source) ∙ append_assoc (pair_line p.stretches ++ own) (e ++ lines) b
         ∙ ap (λ x. (pair_line p.stretches ++ own) ++ x) (append_assoc e lines b))
         end
-        (gap_join (quiet_lines_gap on is.are_trailing refl) (subst (λ c. IsGap o c b r) last g))
+        (gap_join (quiet_lines_gap on trailing_lines refl) (subst (λ c. IsGap o c b r) last g))
 
-    at : (on : Bool) → o.enabled_indented_mutiline_value ≡ on
-        → is_text (end_part o on p) (carriage_return ∷ []) ≡ false
-        → Made (line_part o on p) (end_part o on p ++ (lines_of o on p ++ gap_part o on p))
-    at false off apart = one_line off (gap_ends p.after r (value_closes off is.gives) none apart)
-    at true on apart = many_lines on (lines_end_there on is.are_trailing apart)
+    in_line : is_multiline o p ≡ false → is_text (line_end_at_end own) (carriage_return ∷ []) ≡ false
+        → Made (line ++ front_of own (line_end_at_end own)) (line_end_at_end own ++ (after ++ []))
+    in_line off apart =
+        let parts = one_line is off in
+        cut_lines parts.0 (own_cut is off g)
+        (λ empty. nothing_closes r
+        (text_closes o r (subst (λ x. TextEnds o (x ++ r)) empty parts.1) unmarked) none) apart
+
+    at : (on : Bool) → is_multiline o p ≡ on → (multiline : Bool)
+        → is_text (end_part o on multiline p) (carriage_return ∷ []) ≡ false
+        → Made (line_part o on multiline p)
+        (end_part o on multiline p ++ (lines_of o on multiline p ++ gap_part o on multiline p))
+    at false off true apart =
+        subst (λ x. Made (line ++ front_of own (line_end_at_end own)) (line_end_at_end own ++ x))
+        (append-nil after) (in_line off apart)
+    at false off false apart = in_line off apart
+    at true on multiline apart =
+        let trailing_lines = (goes_on is on).are_trailing in
+        let enabled = (and_parts o.enabled_indented_mutiline_value (has_separator p) on).0 in
+        many_lines enabled trailing_lines (lines_end_there enabled trailing_lines apart)

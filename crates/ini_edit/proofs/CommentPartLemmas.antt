@@ -2,7 +2,7 @@
 use Rattle.std.proofs.Common.{◌≡◌, ◌∙◌, ◌<◌, ◌≤◌, ◌&&◌, ◌||◌, ℕ, Bool, true, false, not, List, [], ◌∷◌}
 use Rattle.std.proofs.Common.{◌++◌, None, Some, ap, append-nil, arith, if◌then◌else◌, length, refl}
 use Rattle.std.proofs.Common.{suc, sym, take, ◌-◌, append_assoc, drop}
-use Rattle.std.proofs.lemmas.Bool.{cond-false, cond-true, false≢true, or_from, or_right}
+use Rattle.std.proofs.lemmas.Bool.{and_right, cond-false, cond-true, false≢true, or_from, or_right}
 use Rattle.std.specs.List.{remove}
 use Rattle.std.specs.Str.{chars}
 use Rattle.ini_text.specs.Grammar.CharacterKinds.{carriage_return, is_line_feed, line_feed, semicolon, space}
@@ -12,7 +12,7 @@ use Rattle.ini_text.specs.Parsing.Items.{string_text}
 use Rattle.ini_text.specs.declared.option.ParseOption.{ParseOption}
 use Rattle.ini.specs.Texts.{Text, is_text}
 use Rattle.ini_edit.specs.Inside.SourceEnds.{IsPlaceAt, end_put, end_put_at, put_over_kept, trailing_of}
-use Rattle.ini_edit.specs.Inside.SourceEnds.{raw_value_of, with_new_end}
+use Rattle.ini_edit.specs.Inside.SourceEnds.{takes_lines, with_new_end, word_of}
 use Rattle.ini_edit.specs.SourceEdits.{with_pairs}
 use Rattle.ini_edit.specs.SourceEditsAdd.{would_go_on}
 use Rattle.ini_edit.specs.SourceEditsComments.{comment_put, comments_over, lines_of_comment, marked}
@@ -21,12 +21,13 @@ use Rattle.ini_edit.specs.SourceEditsDelete.{gap_after, line_end_after, lines_af
 use Rattle.ini_edit.specs.SourceEditsDelete.{with_rest}
 use Rattle.ini_edit.specs.SourceLines.{ends_in_line, is_empty, line_end_at_end}
 use Rattle.ini_edit.specs.SourcePlaces.{Place, exchanged, gap_of, is_nil, last_before_gap, last_before_pair}
-use Rattle.ini_edit.specs.SourcePlaces.{with_end, with_raw_value}
-use Rattle.ini_edit.specs.Sources.{PairPiece, SectionPiece}
+use Rattle.ini_edit.specs.SourcePlaces.{last_word, with_end, with_last_word}
+use Rattle.ini_edit.specs.Sources.{PairPiece, SectionPiece, is_multiline}
 use Rattle.ini_edit.specs.declared.source.pair.ends.NewEnd.{NewEnd}
 use Rattle.ini_edit.proofs.CommentSectionLemmas.{Ended, ended, put_over-end}
 use Rattle.ini_edit.proofs.SourcePlaceLemmas.{end_put-end, place_drop_put, place_remove, place_take}
-use Rattle.ini_edit.proofs.SourcePlaceLemmas.{place_take_put}
+use Rattle.ini_edit.proofs.SourcePlaceLemmas.{place_take_put, same_word}
+use Rattle.ini_edit.proofs.SourceEndLemmas.{takes_last}
 use Rattle.ini_edit.proofs.SourceLineLemmas.{line_end_at_end-rest, none_rest}
 use Rattle.ini_edit.proofs.SourcePlaceLemmas.{trailing_of-end}
 
@@ -64,15 +65,11 @@ pub taken_some : {A : Type 0} (xs : List A) (i : ℕ) → i ≤ length xs → 0 
 taken_some [] i within some = absurd (omega arith)
 taken_some (x ∷ xs) i within some = let one : i ≡ suc (i - 1) = omega arith in rw one refl
 
-not_nil : {A : Type 0} (xs : List A) (x : A) → is_nil (xs ++ x ∷ []) ≡ false
-not_nil [] x = refl
-not_nil (y ∷ xs) x = refl
-
 -- the new last parts: a line end goes to the lines of a multiline value before the gap
 pub put_is : (o : ParseOption) (kept lines rest : Text) (s : SectionPiece) (before : List PairPiece)
     (new : NewEnd)
-    (taken : Bool) → taken ≡ (o.enabled_indented_mutiline_value && (not (is_nil before) && is_empty kept))
-    → new.raw_value ≡ None
+    (taken : Bool) → taken ≡ takes_lines o kept before
+    → new.last_word ≡ None
     → string_text new.trailing_lines ≡ trailing_of before ++ (if taken then lines else [])
     → string_text new.after ≡ kept ++ ((if taken then [] else lines) ++ rest)
     → (after : List PairPiece) → end_put new s before after ≡ put_over_kept o kept lines rest s before after
@@ -80,32 +77,29 @@ put_is o kept lines rest s before new taken is none trailing last after =
     at (ended before) taken is trailing last
   where
     at : {before : List PairPiece} → Ended before → (taken : Bool)
-        → taken ≡ (o.enabled_indented_mutiline_value && (not (is_nil before) && is_empty kept))
+        → taken ≡ takes_lines o kept before
         → string_text new.trailing_lines ≡ trailing_of before ++ (if taken then lines else [])
         → string_text new.after ≡ kept ++ ((if taken then [] else lines) ++ rest)
         → end_put new s before after ≡ put_over_kept o kept lines rest s before after
     at Ended.nothing false is trailing last =
         ap (λ t. record { name = s.name; header = s.header; after = t; pairs = after }) last
     at Ended.nothing true is trailing last =
-        absurd (false≢true (sym (is ∙ off o.enabled_indented_mutiline_value)))
-      where
-        off : (b : Bool) → (b && false) ≡ false
-        off true = refl
-        off false = refl
+        absurd (false≢true (sym (is ∙ and_right (is_empty kept) false refl)))
     at (Ended.one_last ps p) taken is trailing last =
         end_put-end s ps p after new
         ∙ ap (λ q. with_pairs s (ps ++ q ∷ after)) (one taken
-        (is ∙ ap (λ b. o.enabled_indented_mutiline_value && (not b && is_empty kept)) (not_nil ps p))
+        (is ∙ takes_last o kept ps p)
         (trailing ∙ ap (λ t. t ++ (if taken then lines else [])) (trailing_of-end ps p)) last)
         ∙ sym (put_over-end o lines rest kept s after ps p)
       where
-        one : (taken : Bool) → taken ≡ (o.enabled_indented_mutiline_value && is_empty kept)
+        one : (taken : Bool) → taken ≡ (is_multiline o p && is_empty kept)
             → string_text new.trailing_lines ≡ p.stretches.trailing_lines ++ (if taken then lines else [])
             → string_text new.after ≡ kept ++ ((if taken then [] else lines) ++ rest)
             → with_new_end new p ≡ with_rest o lines rest (record p { after = kept })
         one taken is trailing last =
             ap (λ r. with_end (string_text new.trailing_lines) (string_text new.after)
-            (with_raw_value (raw_value_of p.stretches.raw_value r) p)) none
+            (with_last_word (word_of (last_word p) r) p)) none
+            ∙ ap (with_end (string_text new.trailing_lines) (string_text new.after)) (same_word p)
             ∙ ap (λ t. with_end t (string_text new.after) p) trailing
             ∙ ap (λ t. with_end (p.stretches.trailing_lines ++ (if taken then lines else [])) t p) last
             ∙ by taken
@@ -167,7 +161,7 @@ end_put_out e s {p} {i} at left is =
 
 -- a line end is what its lines end with
 pub line_end_rest : (o : ParseOption) (p : PairPiece) → IsRest (own_lines o p) (line_end_after o p)
-line_end_rest o p = by (o.enabled_indented_mutiline_value && not (ends_in_line o (own_lines o p)))
+line_end_rest o p = by (is_multiline o p && not (ends_in_line o (own_lines o p)))
   where
     by : (b : Bool) → IsRest (own_lines o p) (if b then [] else line_end_at_end (own_lines o p))
     by true = none_rest (own_lines o p)

@@ -2,20 +2,19 @@
 -- follows, is read as before.
 use Rattle.std.proofs.Common.{◌≡◌, ◌≢◌, ◌∙◌, ◌==◌, ℕ, true, false, not, ◌||◌, List, [], ◌∷◌, ◌++◌, ap}
 use Rattle.std.proofs.Common.{append_assoc, append-nil, eqb-true, inl, inr, refl, subst, sym}
-use Rattle.std.proofs.lemmas.Bool.{both_ways, false_from_ne_true, false≢true, not-true, or_cases, or_left}
+use Rattle.std.proofs.lemmas.Bool.{both_ways, false_from_ne_true, false≢true, not-true, or_left}
 use Rattle.std.proofs.lemmas.Bool.{or_parts}
 use Rattle.std.specs.Char.{is_whitespace}
-use Rattle.ini_text.specs.Grammar.CharacterKinds.{BeginsWith, BeginsWithNo, colon, equals, is_blank}
-use Rattle.ini_text.specs.Grammar.CharacterKinds.{is_comment_mark, is_line_end, is_line_feed, is_separator}
+use Rattle.ini_text.specs.Grammar.CharacterKinds.{BeginsWith, BeginsWithNo, is_blank}
+use Rattle.ini_text.specs.Grammar.CharacterKinds.{is_comment_mark, is_line_end, is_line_feed}
 use Rattle.ini_text.specs.Grammar.CharacterKinds.{line_feed, open_bracket}
 use Rattle.ini_text.specs.Grammar.Keys.{KeyFront, begins_key}
-use Rattle.ini_text.specs.Grammar.Places.{Stretches, pair_source, value_source}
-use Rattle.ini_text.specs.Grammar.Positions.{last_or, starts_line}
-use Rattle.ini_text.specs.Inside.PlainTests.{begins}
+use Rattle.ini_text.specs.Grammar.Places.{Stretches, after_key_source, pair_source}
+use Rattle.ini_text.specs.Grammar.Positions.{is_column_one, last_or, starts_line}
+use Rattle.ini_text.specs.Grammar.CharacterKinds.{begins}
 use Rattle.ini_text.specs.Laws.PieceLaws.{Agree, BeginAlike}
 use Rattle.ini_text.specs.declared.option.ParseOption.{ParseOption}
 use Rattle.ini_text.proofs.GrammarLemmas.KindLemmas.{blank_is_white}
-use Rattle.ini_text.proofs.LawLemmas.OneAheadLemmas.{Alike, KeyFront-alike}
 use Rattle.ini_text.proofs.LawLemmas.PieceLemmas.{last_or-append}
 use Rattle.ini.specs.Texts.{Text}
 use Rattle.ini_edit.specs.Inside.InPlace.{AreInPlace}
@@ -29,6 +28,7 @@ use Rattle.ini_edit.proofs.CommentRowLemmas.{comments_begin}
 use Rattle.ini_edit.proofs.GapPartLemmas.{LineStarts, Parts, gap_nothing, gap_parts}
 use Rattle.ini_edit.proofs.InPlaceLemmas.{in_place-before, in_place-put, in_place-split}
 use Rattle.ini_edit.proofs.GapLemmas.{gap_join}
+use Rattle.ini_edit.proofs.PairViewLemmas.{key_front_of}
 use Rattle.ini_edit.proofs.QuietLemmas.{line_end_no_mark}
 use Rattle.ini_edit.proofs.SpanFrontLemmas.{gap_free}
 use Rattle.ini_edit.proofs.SpanLemmas.{spans_local}
@@ -66,35 +66,64 @@ mark_no_bracket : (m : ℕ) → is_comment_mark m ≡ true → (m == open_bracke
 mark_no_bracket m mark = false_from_ne_true (m == open_bracket)
     (λ is. false≢true (subst (λ z. is_comment_mark z ≡ true) (eqb-true m open_bracket is) mark))
 
-mark_follows : {c : Text} (x : Text) → BeginsWith is_comment_mark x → FollowsFront c x
-mark_follows [] mark = absurd (false≢true (sym mark))
-mark_follows (m ∷ x) mark = record {
+mark_follows : {c : Text} (x : Text) → is_column_one c ≡ true → BeginsWith is_comment_mark x
+    → FollowsFront c x
+mark_follows [] one mark = absurd (false≢true (sym mark))
+mark_follows (m ∷ x) one mark = record {
   some = ap not (mark_no_end m mark);
   bracket = inl (mark_no_bracket m mark);
+  note = inr one;
 }
 
--- a key that isn't indented, with its separator; and what begins with no line end
-no_blank_begins : (k : Text) (m : ℕ) (r : Text) → begins is_blank k ≡ false → is_separator m ≡ true
-    → BeginsWithNo is_blank (k ++ m ∷ r)
-no_blank_begins [] m r none sep = elim (or_cases (m == equals) (m == colon) sep)
-    [ inl q ↦ rw (eqb-true m 61 q) refl | inr q ↦ rw (eqb-true m 58 q) refl ]
-no_blank_begins (c ∷ k) m r none sep = none
+-- a key that isn't indented, and what follows it; and what begins with no line end
+other_begins : (x : Text) → (BeginsWith is_blank x → ⊥) → BeginsWithNo is_blank x
+other_begins [] apart = tt
+other_begins (c ∷ x) apart = false_from_ne_true (is_blank c) apart
+
+blank_begins : (w s : Text) → BeginsWith is_blank w → begins is_blank (w ++ s) ≡ true
+blank_begins [] s blank = absurd (false≢true (sym blank))
+blank_begins (c ∷ w) s blank = blank
+
+no_blank_begins : {o : ParseOption} {b k r key : Text} → KeyFront o b k r key → begins is_blank k ≡ false
+    → BeginsWithNo is_blank (k ++ r)
+no_blank_begins (KeyFront.unindented {s = s} {r = r} key str) none =
+    other_begins (s ++ r) (no_blank_key (s ++ r) key)
+no_blank_begins (KeyFront.indented {w = w} {s = s} i key str) none =
+    absurd (both_ways (begins is_blank (w ++ s)) none (blank_begins w s i.some))
 
 pub no_end_begins : (x : Text) → BeginsWith (λ c. not (is_line_end c)) x → BeginsWithNo is_line_end x
 no_end_begins [] h = tt
 no_end_begins (c ∷ x) h = not-true (is_line_end c) h
 
 -- a pair, and what follows it
-module _ (q : Stretches) (r : Text) where
-  pub pair_then : pair_source q ++ r ≡ q.key ++ q.separator ∷ (value_source q ++ r)
-  pair_then = append_assoc q.key (q.separator ∷ value_source q) r
+pub pair_then : (q : Stretches) (r : Text) → pair_source q ++ r ≡ q.key ++ (after_key_source q ++ r)
+pair_then q r = append_assoc q.key (after_key_source q) r
+
+module _ {o : ParseOption} {c : ℕ} {q : Stretches} {key value r : Text} (is : IsPair o c q key value r) where
+  pub pair_follows : FollowsFront (c ∷ []) (q.key ++ (after_key_source q ++ r))
+  pair_follows = key_follows (after_key_source q ++ r) (key_front_of is)
+
+  -- no comment mark begins it
+  pub pair_unmarked : BeginsWithNo is_comment_mark (q.key ++ (after_key_source q ++ r))
+  pair_unmarked = at (q.key ++ (after_key_source q ++ r)) (λ mark. no_key (key_front_of is) mark)
+    where
+      at : (x : Text) → (BeginsWith is_comment_mark x → ⊥) → BeginsWithNo is_comment_mark x
+      at [] apart = tt
+      at (d ∷ x) apart = false_from_ne_true (is_comment_mark d) apart
 
   pub pair_some : pair_source q ++ r ≢ []
-  pair_some h = at q.key (value_source q ++ r) (sym pair_then ∙ h)
-    where
-      at : (k y : Text) → k ++ q.separator ∷ y ≡ [] → ⊥
-      at [] y h = let other : q.separator ∷ y ≡ [] = h in cc
-      at (c ∷ k) y h = let other : c ∷ (k ++ q.separator ∷ y) ≡ [] = h in cc
+  pair_some none =
+      false≢true (sym (subst (BeginsWith (λ c. not (is_line_end c))) (sym (pair_then q r) ∙ none)
+      pair_follows.some))
+
+-- a pair that nothing but this text follows is read after LF as where it stood
+pub pair_agrees : {o : ParseOption} {d e : ℕ} {q : Stretches} {key value : Text} (x : Text)
+    → IsPair o d q key value (x ++ []) → is_line_feed e ≡ true
+    → Agree o (d ∷ []) (e ∷ []) (pair_source q ++ x)
+pair_agrees {o} {d} {e} {q} x is one =
+    subst (Agree o (d ∷ []) (e ∷ [])) (sym (pair_then q x))
+    (subst (λ t. Agree o (d ∷ []) (e ∷ []) (q.key ++ (after_key_source q ++ t))) (append-nil x)
+    (key_agrees (key_front_of is) one))
 
 module _ {o : ParseOption} where
   -- a gap exchanged
@@ -138,37 +167,32 @@ module _ (o : ParseOption) (xs zs : List Span) (q : Stretches) (key value kept c
   abbrev following : Text
   following = joined span_source rest ++ []
 
-  key_front : {c : ℕ} → IsPair o c q key value (joined span_source zs ++ [])
-      → KeyFront o (c ∷ []) q.key (q.separator ∷ (value_source q ++ (joined span_source zs ++ []))) key
-  key_front is = KeyFront-alike Alike.same is.key_front
-
-  following_is : following ≡ q.key ++ q.separator ∷ (value_source q ++ (joined span_source zs ++ []))
+  following_is : following ≡ q.key ++ (after_key_source q ++ (joined span_source zs ++ []))
   following_is =
       append_assoc (pair_source q) (joined span_source zs) [] ∙ pair_then q (joined span_source zs ++ [])
 
   -- what stands before the old lines sees no line end
   pub sees : (comments : Text) → are_comments false comments ≡ true
+      → (comments ≢ [] → is_line_feed (last_or last kept) ≡ true)
       → IsPair o (last_or last (kept ++ comments)) q key value (joined span_source zs ++ [])
       → FollowsFront (last_or last kept ∷ []) (comments ++ following)
-  sees [] are is =
+  sees [] are column is =
       subst (FollowsFront (last_or last kept ∷ [])) (sym following_is)
-      (subst (λ t. FollowsFront (last_or last t ∷ []) (q.key ++ q.separator ∷ (value_source q
-      ++ (joined span_source zs ++ [])))) (append-nil kept)
-      (key_follows (q.separator ∷ (value_source q ++ (joined span_source zs ++ []))) (key_front is)))
-  sees (m ∷ comments) are is =
-      mark_follows (m ∷ (comments ++ following))
-      (comments_begin (m ∷ comments) following (λ h. let no : m ∷ comments ≡ [] = h in cc) are)
+      (subst (λ t. FollowsFront (last_or last t ∷ []) (q.key ++ (after_key_source q
+      ++ (joined span_source zs ++ [])))) (append-nil kept) (pair_follows is))
+  sees (m ∷ comments) are column is =
+      let some : m ∷ comments ≢ [] = λ h. cc in
+      mark_follows (m ∷ (comments ++ following)) (column some)
+      (comments_begin (m ∷ comments) following some are)
 
   -- the pair may follow a value where it isn't indented
   pub bare : {c : ℕ} → IsPair o c q key value (joined span_source zs ++ []) → begins is_blank q.key ≡ false
       → Follows o following
   bare {c} is no_blank =
-      let f = subst (FollowsFront (c ∷ [])) (sym following_is)
-      (key_follows (q.separator ∷ (value_source q ++ (joined span_source zs ++ []))) (key_front is)) in
+      let f = subst (FollowsFront (c ∷ [])) (sym following_is) (pair_follows is) in
       record {
         no_blank = λ _. subst (BeginsWithNo is_blank) (sym following_is)
-            (no_blank_begins q.key q.separator (value_source q ++ (joined span_source zs ++ [])) no_blank
-            is.separates);
+            (no_blank_begins (key_front_of is) no_blank);
         no_line_end = λ _. no_end_begins following f.some;
       }
 
@@ -202,16 +226,13 @@ module _ (o : ParseOption) (xs zs : List Span) (q : Stretches) (key value kept c
           → AreSpans o last (gap (kept ++ comments) ∷ rest) []
           → AreSpans o line_feed (xs ++ (gap (kept ++ new) ∷ rest)) []
       at before (AreInPlace.more (IsSpan.is_gap g) (AreInPlace.more (IsSpan.is_pair is) later)) =
-          let f = sees comments are is in
-          let some : following ≢ [] = λ none. pair_some q (joined span_source zs ++ [])
+          let f = sees comments are column is in
+          let some : following ≢ [] = λ none. pair_some is
           (sym (append_assoc (pair_source q) (joined span_source zs) []) ∙ none) in
           let parts = comments_parted kept comments some column g in
           let agrees : Agree o (last_or last (kept ++ comments) ∷ []) (last_or last (kept ++ new) ∷ [])
           (joined span_source rest) =
-          subst (Agree o (last_or last (kept ++ comments) ∷ []) (last_or last (kept ++ new) ∷ []))
-          (sym (pair_then q (joined span_source zs)))
-          (key_agrees (KeyFront-alike Alike.same is.key_front)
-          (ap is_line_feed (last_or-append last kept new) ∙ one)) in
+          pair_agrees (joined span_source zs) is (ap is_line_feed (last_or-append last kept new) ∙ one) in
           gap_exchanged xs rest (kept ++ comments) (kept ++ new) h
           (front kept f (λ none. ahead none (bare is)) before)
           (gap_join (gap_free (new ++ following) f parts.front) made) agrees

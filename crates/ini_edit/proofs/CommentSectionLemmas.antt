@@ -8,7 +8,7 @@ use Rattle.std.specs.List.{list_all}
 use Rattle.std.specs.Prelude.{is_some}
 use Rattle.ini_text.specs.Grammar.CharacterKinds.{is_blank, is_line_feed, line_feed}
 use Rattle.ini_text.specs.Grammar.Positions.{last_or}
-use Rattle.ini_text.specs.Inside.PlainTests.{begins}
+use Rattle.ini_text.specs.Grammar.CharacterKinds.{begins}
 use Rattle.ini_text.specs.Parsing.Fronts.{front_of}
 use Rattle.ini_text.specs.declared.option.ParseOption.{ParseOption}
 use Rattle.ini_text.proofs.StringLemmas.FrontLemmas.{front_is}
@@ -23,15 +23,17 @@ use Rattle.ini_edit.specs.SourceEditsDelete.{rest_put, with_rest}
 use Rattle.ini_edit.specs.SourceLines.{are_comments, comments_at_end, is_empty}
 use Rattle.ini_edit.specs.SourcePlaces.{Place, exchanged, gap_of, gap_put, is_nil, last_before_gap}
 use Rattle.ini_edit.specs.SourcePlaces.{last_before_section, with_end}
-use Rattle.ini_edit.specs.Sources.{PairPiece, SectionPiece, joined}
+use Rattle.ini_edit.specs.Sources.{PairPiece, SectionPiece, has_separator, is_multiline, joined}
 use Rattle.ini_edit.specs.Places.{Follows}
 use Rattle.ini_edit.proofs.AheadLemmas.{FollowsFront, any_follows}
-use Rattle.ini_edit.proofs.CommentLineLemmas.{AreLines, line_taken, lines_made, lines_may_follow, with_lines}
+use Rattle.ini_edit.proofs.CommentLineLemmas.{AreLines, line_taken, lines_made, lines_may_follow}
+use Rattle.ini_edit.proofs.CommentLineLemmas.{value_there, with_lines}
 use Rattle.ini_edit.proofs.CommentPutLemmas.{lines_put}
 use Rattle.ini_edit.proofs.CommentRowLemmas.{IsNewLine, comment_lines, comments_there}
 use Rattle.ini_edit.proofs.GapPartLemmas.{gap_nothing}
 use Rattle.ini_edit.proofs.SourcePlaceLemmas.{gap_of-end, gap_put-end, rest_put-end}
-use Rattle.ini_edit.proofs.SourceSpanLemmas.{gap_put_in, last_of_gap, pairs_put_in, spans_after_pairs}
+use Rattle.ini_edit.proofs.SourceSpanLemmas.{gap_put_in, last_of_gap, pairs_put_in, pairs_there}
+use Rattle.ini_edit.proofs.SourceSpanLemmas.{spans_after_pairs}
 use Rattle.ini_edit.proofs.SourceSpanLemmas.{spans_before_gap, spans_before_pairs, spans_up_to_gap}
 use Rattle.ini_edit.proofs.SpanFrontLemmas.{opening_free, spans_follow}
 
@@ -87,7 +89,9 @@ module _ (o : ParseOption) (lines g kept : Text) (s : SectionPiece) (after : Lis
     where
       one : (p : PairPiece) → (o.enabled_indented_mutiline_value ≡ true → kept ≡ [] → lines ≡ [])
           → with_rest o lines g (record p { after = kept }) ≡ record p { after = kept ++ (lines ++ g) }
-      one p none = by o.enabled_indented_mutiline_value kept none
+      one p none =
+          by (is_multiline o p) kept
+          (λ on. none (and_parts o.enabled_indented_mutiline_value (has_separator p) on).0)
         where
           by : (b : Bool) (kept : Text) → (b ≡ true → kept ≡ [] → lines ≡ [])
               → (if b && is_empty kept then with_end (p.stretches.trailing_lines ++ lines) (kept ++ g) p
@@ -206,6 +210,18 @@ module _ (o : ParseOption) {ss : List SectionPiece} {s : Place SectionPiece} {i 
       ++ (pair b.stretches b.key b.value ∷ (gap g ∷ spans_after_pairs s (p.here ∷ p.after)))) []) none h))
       are
 
+  value_before : (m : ℕ) (lines : Text) → are_comments false (m ∷ lines) ≡ true
+      → o.enabled_indented_mutiline_value ≡ true → (ps : List PairPiece) (b : PairPiece)
+      → p.before ≡ ps ++ b ∷ [] → b.after ≡ [] → is_multiline o b ≡ true
+  value_before m lines are_lines on ps b is none =
+      and_from o.enabled_indented_mutiline_value (has_separator b) on
+      (value_there o on (spans_before_pairs s ps) (gap p.here.after ∷ spans_after_pairs s p.after)
+      b.stretches p.here.stretches b.key b.value p.here.key p.here.value m lines end are_lines
+      (subst (λ g. AreSpans o line_feed (spans_before_pairs s ps
+      ++ (pair b.stretches b.key b.value ∷ (gap g ∷ spans_after_pairs s (p.here ∷ p.after)))) []) none
+      (pairs_there o at ps (b ∷ []) (p.here ∷ p.after)
+      (whole ∙ ap (λ l. l ++ p.here ∷ p.after) is ∙ append_assoc ps (b ∷ []) (p.here ∷ p.after)) are)))
+
   abbrev put_lines : (glue lines kept : Text) → SectionPiece
   put_lines glue lines kept = put_over o glue lines kept s.here (p.here ∷ p.after) p.before
 
@@ -233,7 +249,8 @@ module _ (o : ParseOption) {ss : List SectionPiece} {s : Place SectionPiece} {i 
           sym (cut.is ∙ ap (gap_of s.here.after) is ∙ gap_of-end s.here.after ps b) ∙ none in
           let taken : with_rest o e (m ∷ lines) (record b { after = [] })
           ≡ record b { stretches = with_lines e b.stretches; after = m ∷ lines } =
-          cond-true (o.enabled_indented_mutiline_value && true) _ _ (ap (λ x. x && true) on) in
+          cond-true (is_multiline o b && true) _ _
+          (ap (λ x. x && true) (value_before m lines are_lines on ps b is last_gap)) in
           subst (λ t. AreSections o (exchanged s (t ∷ [])))
           (sym (ap (put_over o e (m ∷ lines) [] s.here (p.here ∷ p.after)) is
           ∙ put_over-end o e (m ∷ lines) [] s.here (p.here ∷ p.after) ps b

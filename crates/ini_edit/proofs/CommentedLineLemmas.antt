@@ -56,7 +56,7 @@ white_within (c ∷ w) h =
     let parts = and_parts (is_inline_white c) (list_all is_inline_white w) h in
     and_from (not (is_line_end c)) _ (and_parts (is_whitespace c) _ parts.0).1 (white_within w parts.1)
 
-both_within : (x y : Text) → list_all (λ c. not (is_line_end c)) x ≡ true
+pub both_within : (x y : Text) → list_all (λ c. not (is_line_end c)) x ≡ true
     → list_all (λ c. not (is_line_end c)) y ≡ true → list_all (λ c. not (is_line_end c)) (x ++ y) ≡ true
 both_within x y a b = list_all-append (λ c. not (is_line_end c)) x y ∙ and_from _ _ a b
 

@@ -1,16 +1,17 @@
--- The lines after a multiline value whose pair is taken out: the quiet ones at their end stay, and where what
--- follows would notice it, the line end before these.
+-- The lines after a multiline value whose pair is taken out: the quiet ones at their end stay, and where
+-- what follows would notice it, the line end before these.
 use Rattle.std.proofs.Common.{◌≡◌, ◌≢◌, ◌∙◌, ◌==◌, ◌&&◌, ℕ, Bool, true, false, not, [], ◌∷◌}
 use Rattle.std.proofs.Common.{◌++◌, ap, append-nil, eqb-true, if◌then◌else◌, inl, inr, refl, subst, sym}
 use Rattle.std.proofs.lemmas.Bool.{and_from, and_parts, both_ways, cond-true, false≢true}
 use Rattle.std.proofs.lemmas.Bool.{not_from_true, not-false, or_cases, or_parts}
 use Rattle.ini_text.specs.Grammar.CharacterKinds.{BeginsWith, BeginsWithNo, carriage_return}
-use Rattle.ini_text.specs.Grammar.CharacterKinds.{is_comment_mark, is_line_end, is_line_feed, line_feed, space}
+use Rattle.ini_text.specs.Grammar.CharacterKinds.{is_comment_mark, is_line_end, is_line_feed, line_feed}
+use Rattle.ini_text.specs.Grammar.CharacterKinds.{space}
 use Rattle.ini_text.specs.Grammar.Elements.{Element, Gap}
 use Rattle.ini_text.specs.Grammar.Places.{TrailingLines}
 use Rattle.ini_text.specs.Grammar.Positions.{last_or}
 use Rattle.ini_text.specs.Grammar.Values.{MoreLines}
-use Rattle.ini_text.specs.Inside.PlainTests.{begins}
+use Rattle.ini_text.specs.Grammar.CharacterKinds.{begins}
 use Rattle.ini_text.specs.Parsing.Fronts.{front_of}
 use Rattle.ini_text.specs.declared.option.ParseOption.{ParseOption}
 use Rattle.ini_text.proofs.LawLemmas.PieceLemmas.{last_or-append}
@@ -123,7 +124,7 @@ blank_return_gap starts g =
     gap_more (Element.gap (Gap.blank_line {w = space ∷ []} carriage_return
     (record { at_line_start = starts; some = refl; blank = refl }) refl)) g
 
-return_is : {e : Text} → IsLineEnd e → is_text e (carriage_return ∷ []) ≡ true → e ≡ carriage_return ∷ []
+pub return_is : {e : Text} → IsLineEnd e → is_text e (carriage_return ∷ []) ≡ true → e ≡ carriage_return ∷ []
 return_is IsLineEnd.none h = absurd (false≢true h)
 return_is IsLineEnd.lf h = absurd (false≢true h)
 return_is IsLineEnd.cr_lf h = absurd (false≢true h)
@@ -154,6 +155,31 @@ quiet_no_mark o [] b all h = (refl, h)
 quiet_no_mark o (c ∷ r) b all h =
     absurd (both_ways (is_blank_or_line_end c) (mark_apart c h)
     (and_parts (is_blank_or_line_end c) (are_quiet o (next_place o LinePlace.line c r) r) all).0)
+
+-- after a line end another one is lines of a value, but for a CR alone, before which a blank goes
+pub end_blank : {o : ParseOption} {x : Text} (last : ℕ) → o.enabled_indented_mutiline_value ≡ true
+    → Follows o x → is_line_end last ≡ true → {e : Text} → IsLineEnd e → (blank : Bool)
+    → (is_line_end last && is_text e (carriage_return ∷ [])) ≡ blank
+    → AreBlank o (if blank then space ∷ e else e) x
+end_blank {o} {x} last on follows starts end true is =
+    let parts = and_parts (is_line_end last) _ is in
+    subst (λ t. AreBlank o (space ∷ t) x) (sym (return_is end parts.1))
+    (blank_lines_are (space ∷ carriage_return ∷ []) x refl refl
+    (inr (refl, follows.no_blank on, follows.no_line_end on)))
+end_blank last on follows starts IsLineEnd.none false is = no_lines (follows.no_blank on)
+    (follows.no_line_end on)
+end_blank last on follows starts IsLineEnd.lf false is = record {
+  value = line_feed ∷ [];
+  are = MoreLines.empty_lf (MoreLines.done (follows.no_blank on) (follows.no_line_end on));
+  all = refl;
+}
+end_blank last on follows starts IsLineEnd.cr_lf false is = record {
+  value = line_feed ∷ [];
+  are = MoreLines.empty_cr_lf (MoreLines.done (follows.no_blank on) (follows.no_line_end on));
+  all = refl;
+}
+end_blank last on follows starts IsLineEnd.cr false is =
+    absurd (both_ways (is_line_end last && true) is (and_from (is_line_end last) true starts refl))
 
 -- the lines t after a multiline value, before the gap b and r
 module _ {o : ParseOption} (on : o.enabled_indented_mutiline_value ≡ true) {t : Text} (b r : Text)
@@ -197,7 +223,8 @@ module _ {o : ParseOption} (on : o.enabled_indented_mutiline_value ≡ true) {t 
   own_end c ends =
       let is_end = line_last o LinePlace.within line_feed (own_of o t) (λ inner. absurd (false≢true inner))
       ends in
-      subst (λ z. is_line_end z ≡ true) (sym (end_last c line_feed (own_of o t) (own_some ends) is_end)) is_end
+      subst (λ z. is_line_end z ≡ true)
+      (sym (end_last c line_feed (own_of o t) (own_some ends) is_end)) is_end
 
   -- what stays is a gap
   pub staying_gap : IsGap o last (staying o last t b) (b ++ r)
@@ -315,28 +342,6 @@ module _ {o : ParseOption} (on : o.enabled_indented_mutiline_value ≡ true) {t 
       follows : Follows o (b ++ r)
       follows = more_follows are_blank.are
 
-      one : {e : Text} → IsLineEnd e → (blank : Bool)
-          → (is_line_end last && is_text e (carriage_return ∷ [])) ≡ blank
-          → AreBlank o (if blank then space ∷ e else e) (b ++ r)
-      one end true is =
-          let parts = and_parts (is_line_end last) _ is in
-          subst (λ x. AreBlank o (space ∷ x) (b ++ r)) (sym (return_is end parts.1))
-          (blank_lines_are (space ∷ carriage_return ∷ []) (b ++ r) refl refl
-          (inr (refl, follows.no_blank on, follows.no_line_end on)))
-      one IsLineEnd.none false is = no_lines (follows.no_blank on) (follows.no_line_end on)
-      one IsLineEnd.lf false is = record {
-        value = line_feed ∷ [];
-        are = MoreLines.empty_lf (MoreLines.done (follows.no_blank on) (follows.no_line_end on));
-        all = refl;
-      }
-      one IsLineEnd.cr_lf false is = record {
-        value = line_feed ∷ [];
-        are = MoreLines.empty_cr_lf (MoreLines.done (follows.no_blank on) (follows.no_line_end on));
-        all = refl;
-      }
-      one IsLineEnd.cr false is =
-          absurd (both_ways (is_line_end last && true) is (and_from (is_line_end last) true starts refl))
-
       second : (x y : Bool) → (x && y) ≡ false → x ≡ true → y ≡ false
       second true y h q = h
       second false y h q = absurd (false≢true q)
@@ -353,5 +358,5 @@ module _ {o : ParseOption} (on : o.enabled_indented_mutiline_value ≡ true) {t 
           let kept = if is_line_end last && is_text e (carriage_return ∷ []) then space ∷ e else e in
           subst (λ x. AreBlank o (kept ++ x) (b ++ r)) (sym parts.0)
           (subst (λ x. AreBlank o x (b ++ r)) (sym (append-nil kept))
-          (one (end_kind (ends_in_line o (own_of o t)))
+          (end_blank last on follows starts (end_kind (ends_in_line o (own_of o t)))
           (is_line_end last && is_text e (carriage_return ∷ [])) refl))

@@ -1,7 +1,8 @@
 -- Pairs of a key taken out of a text in pieces: the sections are those of a whole text, and the document is
 -- the one without these pairs.
 use Rattle.std.proofs.Common.{◌≡◌, ◌≢◌, ◌∙◌, ◌==◌, ◌-◌, ◌+◌, ◌<◌, ◌≤◌, ℕ, Bool, true, false, cond, List, []}
-use Rattle.std.proofs.Common.{◌&&◌, ◌∷◌, ◌++◌, None, Option, Some, ap, arith, if◌then◌else◌, map, refl, subst}
+use Rattle.std.proofs.Common.{◌&&◌, ◌∷◌, ◌++◌, None, Option, Some, ap, arith, if◌then◌else◌, map, refl}
+use Rattle.std.proofs.Common.{subst}
 use Rattle.std.proofs.Common.{suc, sym, zero}
 use Rattle.std.proofs.lemmas.Bool.{cond-false, cond-true, eqb-true, false≢true}
 use Rattle.std.proofs.lemmas.List.{map-append}
@@ -10,6 +11,7 @@ use Rattle.std.specs.List.{count_by}
 use Rattle.std.specs.Map.{remove_entry}
 use Rattle.std.specs.Option.{option_map}
 use Rattle.std.specs.Prelude.{option_and_then}
+use Rattle.ini_text.specs.Grammar.CharacterKinds.{line_feed}
 use Rattle.ini_text.specs.declared.option.ParseOption.{ParseOption}
 use Rattle.ini.specs.Edits.{delete_in}
 use Rattle.ini.specs.Properties.{removed}
@@ -17,16 +19,17 @@ use Rattle.ini.specs.Texts.{Text, is_name, is_text}
 use Rattle.ini_edit.specs.Inside.SourceEnds.{IsWithout}
 use Rattle.ini_edit.specs.Inside.Spans.{AreSections}
 use Rattle.ini_edit.specs.SourceEditsDelete.{count_of, deleted_at, deleted_from, deleted_nth, deleted_times}
-use Rattle.ini_edit.specs.SourceEditsDelete.{gap_after, line_end_left, lines_after}
-use Rattle.ini_edit.specs.SourceEditsDelete.{pair_taken_out, rest_put, with_rest}
+use Rattle.ini_edit.specs.SourceEditsDelete.{empty_comment, follows_value, gap_after, line_end_left}
+use Rattle.ini_edit.specs.SourceEditsDelete.{lines_after, pair_taken_out, rest_put, to_line_feed, with_rest}
+use Rattle.ini_edit.specs.SourceEditsDelete.{would_be_taken}
 use Rattle.ini_edit.specs.SourcePlaces.{PairPlace, Place, edited_at, last_before_pair, last_before_section}
 use Rattle.ini_edit.specs.SourcePlaces.{last_changed, nth_place, one_on, pair_place, section_place, with_end}
 use Rattle.ini_edit.specs.SourceLines.{is_empty}
 use Rattle.ini_edit.specs.SourceEdits.{with_pairs}
-use Rattle.ini_edit.specs.Sources.{PairPiece, SectionPiece, given_pair, given_section}
+use Rattle.ini_edit.specs.Sources.{PairPiece, SectionPiece, given_pair, given_section, is_multiline}
 use Rattle.ini_edit.proofs.FirstLemmas.{entry_changed}
 use Rattle.ini_edit.proofs.SourceSetLemmas.{as_edit}
-use Rattle.ini_edit.proofs.TakenLemmas.{sections_taken}
+use Rattle.ini_edit.proofs.TakenLemmas.{sections_taken, taken_name}
 
 -- what the search for a place finds
 pub data IsMapped {A B : Type 0} (f : A → B) (o : Option A) (y : B) : Type 0 where
@@ -83,7 +86,8 @@ module _ {A : Type 0} (test : A → Bool) where
       by false z is any h more = go (mapped (one_on x) (nth_place test n xs) p h)
         where
           go : IsMapped (one_on x) (nth_place test n xs) p → NthIs test n (x ∷ xs) p
-          go (IsMapped.to q there same) = subst (NthIs test n (x ∷ xs)) same (NthIs.apart is (more n q there))
+          go (IsMapped.to q there same) = subst (NthIs test n (x ∷ xs)) same
+              (NthIs.apart is (more n q there))
 
   pub nth_none : (xs : List A) (n : ℕ) → nth_place test n xs ≡ None → NthNone test n xs
   nth_none [] n h = NthNone.ends
@@ -172,7 +176,7 @@ module _ {A : Type 0} {test : A → Bool} where
 -- a pair that takes lines and a gap keeps its key and value
 rest_given : (o : ParseOption) (lines gap : Text) (p : PairPiece) → given_pair (with_rest o lines gap p)
     ≡ given_pair p
-rest_given o lines gap p = at (o.enabled_indented_mutiline_value && is_empty p.after)
+rest_given o lines gap p = at (is_multiline o p && is_empty p.after)
   where
     at : (b : Bool) → given_pair (if b then with_end (p.stretches.trailing_lines ++ lines) (p.after ++ gap) p
         else with_end p.stretches.trailing_lines (p.after ++ (lines ++ gap)) p) ≡ given_pair p
@@ -198,13 +202,24 @@ rest_put_given o lines g s (x ∷ xs) after =
 
 pub taken_given : (o : ParseOption) (front : ℕ) (s : SectionPiece) (p : Place PairPiece)
     → given_section (pair_taken_out o front s p) ≡ (s.name, map given_pair (p.before ++ p.after))
-taken_given o front s p =
-    rest_put_given o (line_end_left o (last_before_pair front s p) p.here ++ lines_after o p.here)
-    (gap_after o p.here) s p.before p.after
+taken_given o front s p = at (follows_value o p.before && would_be_taken o p.here p.after)
+  where
+    last : ℕ
+    last = last_before_pair front s p
 
-pub taken_name : (o : ParseOption) (front : ℕ) (s : SectionPiece) (p : Place PairPiece)
-    → (pair_taken_out o front s p).name ≡ s.name
-taken_name o front s p = ap (λ g. g.0) (taken_given o front s p)
+    at : (apart : Bool) → given_section (if apart
+        then rest_put o (to_line_feed last) (empty_comment (line_feed ∷ []) ++ gap_after o p.here) s p.before
+        p.after
+        else rest_put o (line_end_left o last p.here ++ lines_after o p.here) (gap_after o p.here) s p.before
+        p.after) ≡ (s.name, map given_pair (p.before ++ p.after))
+    at true =
+        rest_put_given o (to_line_feed last)
+        (empty_comment (line_feed ∷ []) ++ gap_after o p.here) s p.before
+        p.after
+    at false =
+        rest_put_given o (line_end_left o last p.here ++ lines_after o p.here)
+        (gap_after o p.here) s p.before
+        p.after
 
 -- a place in a section, and that of a pair of the key
 abbrev pub placed_in : Place SectionPiece → Place PairPiece → PairPlace

@@ -1,6 +1,6 @@
 -- What the calls that take pairs out make, step by step.
-use Rattle.std.proofs.Common.{◌≡◌, ◌∙◌, ◌&&◌, ◌-◌, ◌<◌, ℕ, Bool, true, false, List, [], ◌∷◌, ◌++◌, None, Option}
-use Rattle.std.proofs.Common.{Some}
+use Rattle.std.proofs.Common.{◌≡◌, ◌∙◌, ◌&&◌, ◌+◌, ◌-◌, ◌<◌, ℕ, Bool, true, false, List, [], ◌∷◌, ◌++◌, None}
+use Rattle.std.proofs.Common.{Option, Some}
 use Rattle.std.proofs.Common.{ap, arith, drop, get_or, length, refl, set, subst, sym, take}
 use Rattle.std.proofs.lemmas.Bool.{and_parts, cond-false, cond-true}
 use Rattle.std.specs.List.{count_by, remove}
@@ -14,18 +14,19 @@ use Rattle.ini_edit.specs.Inside.SourceEnds.{IsPairAt, IsPlaceAt, IsWithout, end
 use Rattle.ini_edit.specs.Inside.SourceEnds.{last_before}
 use Rattle.ini_edit.specs.SourceEdits.{with_pairs}
 use Rattle.ini_edit.specs.SourceEditsDelete.{deleted_at, deleted_from, deleted_nth, deleted_times}
-use Rattle.ini_edit.specs.SourceEditsDelete.{gap_after, goes_after, left_after, line_end_after, line_end_left}
-use Rattle.ini_edit.specs.SourceEditsDelete.{lines_after}
-use Rattle.ini_edit.specs.SourceEditsDelete.{pair_taken_out, rest_put}
+use Rattle.ini_edit.specs.SourceEditsDelete.{empty_comment, follows_value, gap_after, goes_after, left_after}
+use Rattle.ini_edit.specs.SourceEditsDelete.{line_end_after, line_end_left, lines_after, pair_taken_out}
+use Rattle.ini_edit.specs.SourceEditsDelete.{rest_put, to_line_feed, would_be_taken}
 use Rattle.ini_edit.specs.SourcePlaces.{Place, edited_at, exchanged, last_before_pair}
-use Rattle.ini_edit.specs.SourcePlaces.{last_before_section, nth_place, pair_place, section_place, text_up_to}
+use Rattle.ini_edit.specs.SourcePlaces.{last_before_section, nth_place, pair_place, section_place}
+use Rattle.ini_edit.specs.SourcePlaces.{text_up_to}
 use Rattle.ini_edit.specs.Sources.{PairPiece, Pieces, SectionPiece, sections_text}
 use Rattle.ini_edit.specs.declared.source.pair.ends.NewEnd.{NewEnd}
 use Rattle.ini_edit.proofs.DeletedSourceLemmas.{IsMapped, mapped, none_above, nth_none, pair_within}
 use Rattle.ini_edit.proofs.DeletedSourceLemmas.{placed_in}
 use Rattle.ini_edit.proofs.DeletedSourceLemmas.{times_there, unmapped}
-use Rattle.ini_edit.proofs.SourcePlaceLemmas.{place_drop_put, place_remove, place_set, place_take}
-use Rattle.ini_edit.proofs.SourcePlaceLemmas.{place_read, place_take_put, place_within}
+use Rattle.ini_edit.proofs.SourcePlaceLemmas.{place_drop_more, place_drop_put, place_remove, place_set}
+use Rattle.ini_edit.proofs.SourcePlaceLemmas.{place_read, place_take, place_take_put, place_within}
 
 end_put_bare : (e : NewEnd) (s : SectionPiece) (ps before after : List PairPiece)
     → end_put e (with_pairs s ps) before after ≡ end_put e s before after
@@ -55,42 +56,73 @@ module _ (multiline : Bool) (last : ℕ) (e lines g : Text) where
       ∙ cond-false (multiline && (is_line_end last && is_text e (carriage_return ∷ []))) _ _ bare)
 
 -- what stays of a pair: what the code puts together
-pub stays_put : (o : ParseOption) (t : SectionPiece) (front i : ℕ) (x : PairPiece) (p : Place PairPiece)
-    → IsPlaceAt t.pairs p i → x ≡ p.here → (last : ℕ) → last ≡ last_or front (text_up_to t (take i t.pairs))
-    → (end lines g : Text) → end ≡ line_end_after o x → lines ≡ lines_after o x → g ≡ gap_after o x
-    → (first all : Text)
-    → first ≡ left_after o.enabled_indented_mutiline_value last end lines g → all ≡ first ++ lines
-    → all ≡ line_end_left o (last_before_pair front t p) p.here ++ lines_after o p.here
-stays_put o t front i x p at here last is_last end lines g is_end is_lines is_gap first all is_first is_all =
-    let up_to = last_before_pair front t p in
-    let put : ℕ → Text → Text → Text → Text = λ z e l h.
-    left_after o.enabled_indented_mutiline_value z e l h ++ l in
-    is_all ∙ ap (λ f. f ++ lines) is_first
-    ∙ ap (λ z. put z end lines g) (is_last ∙ ap (λ ps. last_or front (text_up_to t ps)) (place_take at))
-    ∙ ap (λ e. put up_to e lines g) is_end
-    ∙ ap (λ l. put up_to (line_end_after o x) l g) is_lines
-    ∙ ap (λ h. put up_to (line_end_after o x) (lines_after o x) h) is_gap
-    ∙ ap (λ y. put up_to (line_end_after o y) (lines_after o y) (gap_after o y)) here
+module _ (o : ParseOption) (front : ℕ) (t : SectionPiece) (p : Place PairPiece) {last : ℕ}
+    (is_last : last ≡ last_before_pair front t p) {lines g : Text} where
+  pub taken_apart : {gap : Text} → (follows_value o p.before && would_be_taken o p.here p.after) ≡ true
+      → lines ≡ to_line_feed last → gap ≡ gap_after o p.here → g ≡ empty_comment (line_feed ∷ []) ++ gap
+      → rest_put o lines g t p.before p.after ≡ pair_taken_out o front t p
+  taken_apart apart is_lines is_gap is_g =
+      let comment = empty_comment (line_feed ∷ []) in
+      ap (λ l. rest_put o l g t p.before p.after) (is_lines ∙ ap to_line_feed is_last)
+      ∙ ap (λ h. rest_put o (to_line_feed (last_before_pair front t p)) h t p.before p.after)
+      (is_g ∙ ap (λ z. comment ++ z) is_gap)
+      ∙ sym (cond-true (follows_value o p.before && would_be_taken o p.here p.after) _ _ apart)
+
+  pub taken_left : {end after first : Text}
+      → (follows_value o p.before && would_be_taken o p.here p.after) ≡ false
+      → end ≡ line_end_after o p.here → after ≡ lines_after o p.here → g ≡ gap_after o p.here
+      → first ≡ left_after o.enabled_indented_mutiline_value last end after g → lines ≡ first ++ after
+      → rest_put o lines g t p.before p.after ≡ pair_taken_out o front t p
+  taken_left {end} {after} {first} apart is_end is_after is_gap is_first is_lines =
+      let up_to = last_before_pair front t p in
+      let left : ℕ → Text → Text → Text → Text = λ z e l h.
+      left_after o.enabled_indented_mutiline_value z e l h ++ l in
+      let all : lines ≡ line_end_left o up_to p.here ++ lines_after o p.here =
+      is_lines ∙ ap (λ f. f ++ after) is_first ∙ ap (λ z. left z end after g) is_last
+      ∙ ap (λ e. left up_to e after g) is_end ∙ ap (λ l. left up_to (line_end_after o p.here) l g) is_after
+      ∙ ap (left up_to (line_end_after o p.here) (lines_after o p.here)) is_gap in
+      ap (λ l. rest_put o l g t p.before p.after) all
+      ∙ ap (λ h. rest_put o (line_end_left o up_to p.here ++ lines_after o p.here) h t p.before p.after)
+      is_gap
+      ∙ sym (cond-false (follows_value o p.before && would_be_taken o p.here p.after) _ _ apart)
+
+-- what the code reads at an index, for the place there
+module _ (o : ParseOption) (t : SectionPiece) {i : ℕ} {x : PairPiece} {p : Place PairPiece}
+    (at : IsPlaceAt t.pairs p i) (here : x ≡ p.here) where
+  pub last_of_place : (front : ℕ)
+      → last_or front (text_up_to t (take i t.pairs)) ≡ last_before_pair front t p
+  last_of_place front = ap (λ ps. last_or front (text_up_to t ps)) (place_take at)
+
+  -- whether an empty comment keeps it apart
+  pub apart_of_place : {follows is_taken : Bool} → follows ≡ follows_value o (take i t.pairs)
+      → is_taken ≡ would_be_taken o x (drop (i + 1) t.pairs)
+      → (follows_value o p.before && would_be_taken o p.here p.after) ≡ (follows && is_taken)
+  apart_of_place {follows} {is_taken} is_follows is_takes =
+      sym (ap (λ b. b && is_taken) (is_follows ∙ ap (follows_value o) (place_take at))
+      ∙ ap (λ b. follows_value o p.before && b)
+      (is_takes ∙ ap (would_be_taken o x) (place_drop_more at)
+      ∙ ap (λ y. would_be_taken o y p.after) here))
+
+  pub put_at_place : (e : NewEnd) (lines g : Text)
+      → ((after : List PairPiece) → end_put e t (take i t.pairs) after
+      ≡ rest_put o lines g t (take i t.pairs) after)
+      → end_put e t p.before p.after ≡ rest_put o lines g t p.before p.after
+  put_at_place e lines g put =
+      ap (λ ps. end_put e t ps p.after) (sym (place_take at)) ∙ put p.after
+      ∙ ap (λ ps. rest_put o lines g t ps p.after) (place_take at)
 
 -- a pair out of its section's list, with what stays of it put after what stood before it
 pub out_of_section : (o : ParseOption) (t : SectionPiece) (p : Place PairPiece) (i : ℕ)
-    → IsPlaceAt t.pairs p i → (front : ℕ) (e : NewEnd) (lines g : Text) (left : List PairPiece)
-    → ((after : List PairPiece) → end_put e t (take i t.pairs) after
-    ≡ rest_put o lines g t (take i t.pairs) after)
-    → lines ≡ line_end_left o (last_before_pair front t p) p.here ++ lines_after o p.here → g ≡ gap_after o p.here → left ≡ remove t.pairs i
+    → IsPlaceAt t.pairs p i → (front : ℕ) (e : NewEnd) (left : List PairPiece)
+    → end_put e t p.before p.after ≡ pair_taken_out o front t p → left ≡ remove t.pairs i
     → end_put_at e i (with_pairs t left) ≡ pair_taken_out o front t p
-out_of_section o t p i at front e lines g left put is_lines is_gap is_left =
+out_of_section o t p i at front e left put is_left =
     let bare = with_pairs t (remove t.pairs i) in
-    let stays = line_end_left o (last_before_pair front t p) p.here ++ lines_after o p.here in
     ap (λ ps. end_put_at e i (with_pairs t ps)) is_left
     ∙ ap (λ ps. end_put e bare (take i ps) (drop i ps)) (place_remove at)
     ∙ ap (λ ps. end_put e bare ps (drop i (exchanged p []))) (place_take_put at [])
     ∙ ap (end_put e bare p.before) (place_drop_put at [])
-    ∙ end_put_bare e t (remove t.pairs i) p.before p.after
-    ∙ ap (λ ps. end_put e t ps p.after) (sym (place_take at)) ∙ put p.after
-    ∙ ap (λ ps. rest_put o lines g t ps p.after) (place_take at)
-    ∙ ap (λ l. rest_put o l g t p.before p.after) is_lines
-    ∙ ap (λ l. rest_put o stays l t p.before p.after) is_gap
+    ∙ end_put_bare e t (remove t.pairs i) p.before p.after ∙ put
 
 module _ (o : ParseOption) (name : Option Text) (key : Text) (n : ℕ) {ss : List SectionPiece} {i j : ℕ}
     (at : IsPairAt (pair_place name key n ss) ss i j) where

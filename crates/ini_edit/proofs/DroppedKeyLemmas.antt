@@ -17,7 +17,7 @@ use Rattle.ini_text.specs.Grammar.Lines.{Note}
 use Rattle.ini_text.specs.Grammar.Pieces.{ArePieces, Piece, pieces_items, pieces_text}
 use Rattle.ini_text.specs.Grammar.Positions.{last_or}
 use Rattle.ini_text.specs.Grammar.Strings.{Closes, plain_ends}
-use Rattle.ini_text.specs.Inside.PlainTests.{begins}
+use Rattle.ini_text.specs.Grammar.CharacterKinds.{begins}
 use Rattle.ini_text.specs.declared.option.ParseOption.{ParseOption}
 use Rattle.ini_text.proofs.GrammarLemmas.KindLemmas.{comment_mark-apart, line_end_no_blank}
 use Rattle.ini_text.proofs.LawLemmas.PieceLemmas.{last_or-append}
@@ -47,7 +47,7 @@ quiet_no_bracket t (QuietFront.blanks {w = w} s i) =
     subst (BeginsWithNo (λ c. c == open_bracket)) (sym (append_assoc w s t))
     (no_bracket_by is_blank w (s ++ t) refl i.some)
 quiet_no_bracket t (QuietFront.white {c = c} q n) = no_bracket_by is_whitespace (c ∷ []) t refl q
-quiet_no_bracket t (QuietFront.comment {m = m} {t = s} starts mark is) =
+quiet_no_bracket t (QuietFront.comment {m = m} {t = s} mark is) =
     no_bracket_by is_comment_mark (m ∷ []) (s ++ t) refl mark
 
 pub pieces_no_bracket : {o : ParseOption} {c : ℕ} {r : Text} (ps : List Piece) → pieces_items ps ≡ []
@@ -281,11 +281,10 @@ module _ (o : ParseOption) where
       (ap (begins (may_begin_key o)) after
       ∙ ap not (or_from (is_line_end k) (begins_note o k) kinds.1 whole.1))))
 
-  note_passes : {c : ℕ} {w s t : Text} → o.enabled_indented_comment ≡ true → NoteFront (c ∷ []) w → Note s t
-      → Passes o c (w ++ s) t
-  note_passes {c} {t = t} on (NoteFront.after_cr starts late) (Note.note {m} {s} mark all closes) =
+  note_passes : {c : ℕ} {w s t : Text} → NoteFront o (c ∷ []) w → Note s t → Passes o c (w ++ s) t
+  note_passes {c} {t = t} (NoteFront.alone may late) (Note.note {m} {s} mark all closes) =
       Passes.past (mark_no_key mark) (note_past c late (Note.note {m = m} {s = s} mark all closes))
-  note_passes {c} {w} {t = t} on (NoteFront.indented i) (Note.note {m} {s} mark all closes) =
+  note_passes {c} {w} {t = t} (NoteFront.indented on i) (Note.note {m} {s} mark all closes) =
       let note = begins_note o m in
       let unkeyed : may_begin_key o m ≡ false =
       ap not (or_right (is_line_end m) note (and_from o.enabled_indented_comment _ on mark)) in
@@ -333,8 +332,8 @@ module _ (o : ParseOption) where
       ∙ key_found c w s i.at_line_start i.some i.blank begins ∙ sym (append-nil (w ++ s)))
       i.at_line_start
       (begins_more is_blank (w ++ s) [] (begins_more is_blank w s i.some)))
-  passes {c} (Quiet.at_line_end {w = w} {s = s} on front remark) same apart =
-      subst (Passes o c (w ++ s)) same (note_passes on front remark)
+  passes {c} (Quiet.at_line_end {w = w} {s = s} front remark) same apart =
+      subst (Passes o c (w ++ s)) same (note_passes front remark)
 
 -- none of them is an indented key
 abbrev pub AreKeyless : ParseOption → List Piece → Type 0

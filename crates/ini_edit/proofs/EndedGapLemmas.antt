@@ -46,7 +46,8 @@ comment_last m s mark all feed =
     (not-true _ (all_last is_other m s (and_from (is_other m) (list_all is_other s)
     (ap not no_feed) all))) feed)
 
-note_last : {X : Type 0} (c : ℕ) (w : Text) {s r : Text} → Note s r → is_line_feed (last_or c (w ++ s)) ≡ true
+note_last : {X : Type 0} (c : ℕ) (w : Text) {s r : Text} → Note s r
+    → is_line_feed (last_or c (w ++ s)) ≡ true
     → X
 note_last c w (Note.note {m} {s} mark all closes) feed =
     let last : is_line_feed (last_or m s) ≡ true =
@@ -117,8 +118,8 @@ module _ {o : ParseOption} where
       comment_ended s feed one mark all
   quiet_ended x feed (Quiet.at_end (Tail.blanks i)) key other = blanks_ended feed i
   quiet_ended x feed (Quiet.at_end (Tail.key s i begins)) key other = absurd (key (key_there s i begins))
-  quiet_ended {l = l} x feed (Quiet.at_line_end on front remark) key other =
-      gap_after (note_element on front (note_before (l ++ x) (feed_closes_plain x feed) remark))
+  quiet_ended {l = l} x feed (Quiet.at_line_end front remark) key other =
+      gap_after (note_element front (note_before (l ++ x) (feed_closes_plain x feed) remark))
       (feed_gap feed)
 
   -- elements with a line end after them
@@ -148,7 +149,7 @@ module _ {o : ParseOption} where
       comment_last m s mark all feed
   quiet_stands {c} x (Quiet.at_end (Tail.blanks {w = w} i)) key feed = blank_last c w i.some i.blank feed
   quiet_stands x (Quiet.at_end (Tail.key s i begins)) key feed = absurd (key (key_there s i begins))
-  quiet_stands {c} x (Quiet.at_line_end {w = w} on front remark) key feed = note_last c w remark feed
+  quiet_stands {c} x (Quiet.at_line_end {w = w} front remark) key feed = note_last c w remark feed
 
   pieces_stand : {c : ℕ} {y : Text} (x : Text) (ps : List Piece) → pieces_items ps ≡ [] → AreKeyless o ps
       → is_line_feed (last_or c (pieces_text ps)) ≡ true → ArePieces o c ps y → ArePieces o c ps x

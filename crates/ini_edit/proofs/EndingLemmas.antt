@@ -12,7 +12,7 @@ use Rattle.ini_text.specs.Grammar.CharacterKinds.{is_line_feed, is_quote_mark, B
 use Rattle.ini_text.specs.Grammar.Positions.{last_or, is_column_one}
 use Rattle.ini_text.specs.Grammar.EscapeSequences.{EscapeSequence, spelled}
 use Rattle.ini_text.specs.Grammar.Strings.{Ends, Row, Str, is_endpoint}
-use Rattle.ini_text.specs.Grammar.Lines.{Quoted, Line}
+use Rattle.ini_text.specs.Grammar.Lines.{LineText, Quoted}
 use Rattle.ini_text.specs.Options.Backslashes.{Escape, Kept, Raw, begins_escape, is_special}
 use Rattle.ini_text.specs.Options.Backslashes.{reads_escapes}
 use Rattle.ini_text.specs.Options.ReadOptions.{backslash_of}
@@ -126,18 +126,21 @@ ending-escape o special z (EscapeSequence.coded {a} {b} {c} {d} {v} on is) =
 ending-escape o special z (EscapeSequence.itself {c} on n m k) = after_special o special c z
 ending-escape o special z (EscapeSequence.kept {c} off n) = after_special o special c z
 
+no_feed : (ends : Ends) (c : ℕ) → is_endpoint ends line_feed ≡ true → is_endpoint ends c ≡ false
+    → eqb c line_feed ≡ false
+no_feed ends c feed inside =
+    false_from_ne_true (eqb c line_feed)
+    (λ q. false≢true (sym inside
+    ∙ subst (λ x. is_endpoint ends x ≡ true) (sym (eqb-true c line_feed q)) feed))
+
 -- after a row that LF ends
 pub ending-row : (o : ParseOption) {ends : Ends} {s v : List ℕ} (z : List ℕ)
     → is_endpoint ends line_feed ≡ true
     → Row (backslash_of o) ends s v → ending_from o Ending.inside (s ++ z) ≡ ending_from o Ending.inside z
 ending-row o z feed Row.none = refl
-ending-row o {ends = ends} z feed (Row.raw {c} {s = s} n inside rest) =
-    ending-inner o c (s ++ z) (record {
-      no_backslash = n;
-      no_line_feed = false_from_ne_true (eqb c line_feed)
-          (λ q. false≢true (sym inside
-          ∙ subst (λ x. is_endpoint ends x ≡ true) (sym (eqb-true c line_feed q)) feed));
-    }) ∙ ending-row o z feed rest
+ending-row o {ends = ends} z feed (Row.raw {c} {s = s} n inside apart rest) =
+    ending-inner o c (s ++ z) (record { no_backslash = n; no_line_feed = no_feed ends c feed inside })
+    ∙ ending-row o z feed rest
 ending-row o z feed (Row.escape {p = p} {s = s} special k rest) =
     ap (ending_from o Ending.inside) (append_assoc p s z) ∙ ending-escape o special (s ++ z) k
     ∙ ending-row o z feed rest
@@ -156,14 +159,22 @@ ending-quoted {o} z (Quoted.part {m = m} {s = s} {q = q} on mark str rest) =
     ap (λ x. ending_from o Ending.inside (m ∷ x)) (append_assoc s (m ∷ q) z)
     ∙ ending-after o Ending.inside (m ∷ s) m (q ++ z) (mark_inner o m mark) ∙ ending-quoted z rest
 
--- after a line that something follows
-pub ending-line : {o : ParseOption} {first : Bool} {l r v : List ℕ} (z : List ℕ) → r ≢ []
-    → Line o first l r v
+-- after a line's text that something follows
+ending-str : (o : ParseOption) {ends : Ends} {s r v : List ℕ} (z : List ℕ)
+    → is_endpoint ends line_feed ≡ true → r ≢ [] → Str (backslash_of o) ends s r v
+    → ending_from o Ending.inside (s ++ z) ≡ ending_from o Ending.inside z
+ending-str o z feed some (Str.closed row h) = ending-row o z feed row
+ending-str o {ends = ends} z feed some (Str.before_note {s} c row n inside note) =
+    ap (ending_from o Ending.inside) (append_assoc s (c ∷ []) z) ∙ ending-row o (c ∷ z) feed row
+    ∙ ending-inner o c z (record { no_backslash = n; no_line_feed = no_feed ends c feed inside })
+ending-str o z feed some (Str.lone special row h) = absurd (some refl)
+
+pub ending-text : {o : ParseOption} {first : Bool} {l r v : List ℕ} (z : List ℕ) → r ≢ []
+    → LineText o first l r v
     → ending_from o Ending.inside (l ++ z) ≡ ending_from o Ending.inside z
-ending-line {o} z some (Line.line {q = q} {p = p} quoted plain (Str.closed row h)) =
+ending-text {o} z some (LineText.text {q = q} {p = p} quoted plain str) =
     ap (ending_from o Ending.inside) (append_assoc q p z) ∙ ending-quoted (p ++ z) quoted
-    ∙ ending-row o z refl row
-ending-line {o} z some (Line.line quoted plain (Str.lone special row h)) = absurd (some refl)
+    ∙ ending-str o z refl some str
 
 -- after the lead of a line that goes on with a value
 pub ending-lead : (o : ParseOption) (e : Ending) (w z : List ℕ) → BeginsWith is_blank w
@@ -174,19 +185,6 @@ ending-lead o e (c ∷ w) z some h =
     let parts = and_parts (is_inline_white c) (list_all is_inline_white w) h in
     ap (λ x. ending_from o x (w ++ z)) (next_inner o e c (inline_inner o c parts.0))
     ∙ ending-white o w z parts.1
-
--- a line that ends the text may end with a backslash; no line ends with LF that no backslash takes
-pub line_no_line : {o : ParseOption} {first : Bool} {l r v : List ℕ} → Line o first l r v
-    → ending_from o Ending.inside l ≢ Ending.line
-line_no_line {o} (Line.line {q = q} {p = p} quoted plain (Str.closed row h)) e =
-    let is : ending_from o Ending.inside p ≡ Ending.inside =
-    ap (ending_from o Ending.inside) (sym (append-nil p)) ∙ ending-row o [] refl row in
-    let no : Ending.inside ≡ Ending.line = sym is ∙ sym (ending-quoted p quoted) ∙ e in cc
-line_no_line {o} (Line.line quoted plain (Str.lone {s = s} special row h)) e =
-    let no : Ending.escape ≡ Ending.line =
-    sym (cond-true (is_special (backslash_of o)) Ending.escape _ special)
-    ∙ sym (ending-row o (backslash ∷ []) refl row) ∙ sym (ending-quoted (s ++ backslash ∷ []) quoted)
-    ∙ e in cc
 
 -- column one is after an LF
 pub column_ending : (o : ParseOption) (W : List ℕ) → ending o W ≡ Ending.line → is_column_one W ≡ true

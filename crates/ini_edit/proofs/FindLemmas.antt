@@ -1,6 +1,6 @@
 -- The walk to the first pair of a key in the first section of a name.
 use Rattle.std.proofs.Common.{◌≡◌, ◌∙◌, Bool, true, false, cond, List, [], ◌∷◌, ◌++◌, fold, ap, sym, subst}
-use Rattle.std.proofs.Common.{refl}
+use Rattle.std.proofs.Common.{refl, subst₂}
 use Rattle.std.proofs.Common.{Option, None, Some, append_assoc, append-nil, chars, MatchOption}
 use Rattle.std.specs.Prelude.{option_and_then}
 use Rattle.std.proofs.lemmas.Bool.{cond-true, cond-false}
@@ -10,7 +10,9 @@ use Rattle.std.specs.List.{list_all}
 use Rattle.ini_text.specs.Grammar.CharacterKinds.{is_inline_white}
 use Rattle.ini_text.specs.Grammar.Elements.{Given, Header, Pair, Element}
 use Rattle.ini_text.specs.Options.Backslashes.{Backslash}
-use Rattle.ini_text.specs.Grammar.Places.{SpaceAfter, pair_source}
+use Rattle.ini_text.specs.Grammar.Keys.{KeyFront}
+use Rattle.ini_text.specs.Grammar.Places.{ArePlaced, FollowsKey, SpaceAfter, Stretches, after_key_source}
+use Rattle.ini_text.specs.Grammar.Places.{pair_source, separator_text, value_source}
 use Rattle.ini_text.specs.Grammar.Texts.{Reads}
 use Rattle.ini_text.specs.Laws.PlainLaws.{BeginsWithHeader}
 use Rattle.ini_text.specs.Parsing.Items.{cow_text}
@@ -264,6 +266,25 @@ pub white_after : {b : Backslash} {raw_value space_after : Text} → SpaceAfter 
 white_after (SpaceAfter.bare bare white) = white
 white_after (SpaceAfter.escaped front white special all) = refl
 
+-- a pair in its stretches is an element
+pub placed_element : {o : ParseOption} {b r key value : Text} {p : Stretches} → ArePlaced o b p r key value
+    → Element o b (pair_source p) r (Pair key value ∷ [])
+placed_element {o} {b} {r} {key} {value} {p} h = at h.after_key
+  where
+    at : FollowsKey o p r value → Element o b (pair_source p) r (Pair key value ∷ [])
+    at (FollowsKey.has_value f) =
+        subst (λ m. Element o b (p.key ++ (separator_text m ++ value_source p)) r (Pair key value ∷ []))
+        (sym f.separator_is)
+        (Element.pair (subst (λ m. KeyFront o b p.key ((separator_text m ++ value_source p) ++ r) key)
+        f.separator_is h.key_front) h.some f.separates f.gives)
+    at (FollowsKey.is_lone f) =
+        let none : after_key_source p ≡ [] =
+        ap (λ m. separator_text m ++ value_source p) f.no_separator ∙ f.nothing in
+        subst₂ (λ s v. Element o b s r (Pair key v ∷ []))
+        (sym (ap (λ t. p.key ++ t) none ∙ append-nil p.key)) (sym f.empty)
+        (Element.lone_key f.may_be (subst (λ t. KeyFront o b p.key (t ++ r) key) none h.key_front)
+        h.some f.next)
+
 pub end_reads : {o : ParseOption} {T c d : Text} → EndsSection o T c d
     → (items : List Given) × Reads o T c items d
 end_reads (EndsSection.end is) = ([], Reads.stay [] (sym is ∙ sym (append-nil _)))
@@ -282,13 +303,7 @@ module _ {o : ParseOption} {T : Text} {p : Place} {name : Option Text} (key : Te
     stands = record {
       text = reaches.whole;
       reads = reads-append opens.reads reaches.passes.reads;
-      key_front = reaches.placed.key_front;
-      some = reaches.placed.some;
-      separates = reaches.placed.separates;
-      gives = reaches.placed.gives;
-      white_before = reaches.placed.space_before.white;
-      white_after = white_after reaches.placed.space_after;
-      is_tail = reaches.placed.trailing_lines;
+      is_element = placed_element reaches.placed;
       then = subst (λ c. Reads o T c after T) reaches.front then;
     };
     target = record {
@@ -356,7 +371,7 @@ module _ {o : ParseOption} {T : Text} {p : Place} {name : Option Text} (key : Te
       let x = stretches_of pair in
       let placed = h.placed in
       subst (Reads o T x.front (Pair key (cow_text pair.value) ∷ [])) (sym h.front)
-      (Reads.step h.whole (Element.pair placed.key_front placed.some placed.separates placed.gives)
+      (Reads.step h.whole (placed_element placed)
       (Reads.stay x.rest (h.whole ∙ sym (append_assoc x.front (pair_of x) x.rest))))
 
   pub reached_within : (q : Place) (found : Option FoundPair)

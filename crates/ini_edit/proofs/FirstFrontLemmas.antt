@@ -1,16 +1,18 @@
 -- What stands in a gap before a section's first pair stands before any text, once its line is ended: the
 -- header's own line, comment lines, and blank lines.
-use Rattle.std.proofs.Common.{◌≡◌, ◌∙◌, ◌⊎◌, ◌==◌, ◌||◌, ℕ, Bool, true, false, cond, List, [], ◌∷◌, ◌++◌}
-use Rattle.std.proofs.Common.{ap, append-nil, inl, inr, refl, subst, sym}
-use Rattle.std.proofs.lemmas.Bool.{and_from, both_ways, cond-false, cond-true, false≢true}
-use Rattle.std.proofs.lemmas.Bool.{or_left, or_parts}
+use Rattle.std.proofs.Common.{◌≡◌, ◌∙◌, ◌⊎◌, ◌==◌, ◌||◌, ℕ, Bool, true, false, cond, not, List, [], ◌∷◌}
+use Rattle.std.proofs.Common.{◌++◌, ap, append_assoc, append-nil, inl, inr, refl, subst, sym}
+use Rattle.std.proofs.lemmas.Bool.{and_from, and_parts, both_ways, cond-false, cond-true, false≢true}
+use Rattle.std.proofs.lemmas.Bool.{not-true, or_left, or_parts, or_right}
 use Rattle.std.specs.Char.{is_whitespace}
-use Rattle.std.specs.List.{list_all}
+use Rattle.std.specs.List.{list_all, list_any}
 use Rattle.ini_text.specs.Grammar.CharacterKinds.{BeginsWith, carriage_return, is_comment_mark, is_line_end}
 use Rattle.ini_text.specs.Grammar.CharacterKinds.{is_line_feed, line_feed}
-use Rattle.ini_text.specs.Grammar.Elements.{Element, Gap}
+use Rattle.ini_text.specs.Grammar.Elements.{Element, Gap, may_have_note}
+use Rattle.ini_text.specs.Grammar.Lines.{Note}
 use Rattle.ini_text.specs.Grammar.Pieces.{ArePieces, Piece, pieces_items, pieces_text}
 use Rattle.ini_text.specs.Grammar.Positions.{is_column_one, last_or}
+use Rattle.ini_text.specs.Grammar.Strings.{Closes, is_endpoint, plain_ends}
 use Rattle.ini_text.specs.Parsing.Fronts.{front_of}
 use Rattle.ini_text.specs.declared.option.ParseOption.{ParseOption}
 use Rattle.ini_text.proofs.StringLemmas.FrontLemmas.{front_is}
@@ -20,10 +22,14 @@ use Rattle.ini_edit.specs.SourceLines.{after_comments, after_line, after_line_en
 use Rattle.ini_edit.specs.SourceLines.{are_comments, is_empty, is_in_comment}
 use Rattle.ini_edit.proofs.CommentRowLemmas.{IsNewLine, comments_ended}
 use Rattle.ini_edit.proofs.CommentRowLemmas.{comments_whole}
-use Rattle.ini_edit.proofs.GapLemmas.{CommentPlace, empty_front, gap_join, pieces_place}
+use Rattle.ini_edit.proofs.GapCutLemmas.{line_past, line_there}
+use Rattle.ini_edit.proofs.GapLemmas.{CommentPlace, empty_front, gap_join, gap_more, pieces_place}
 use Rattle.ini_edit.proofs.GapPartLemmas.{gap_nothing}
-use Rattle.ini_edit.proofs.QuietLemmas.{as_quiet, quiet_front, white_within}
+use Rattle.ini_edit.proofs.QuietLemmas.{WithinLine, as_quiet, front_within, note_before, note_closes}
+use Rattle.ini_edit.proofs.QuietLemmas.{note_within, quiet_front}
 use Rattle.ini_edit.proofs.SourceAddLemmas.{line_ends_gap}
+use Rattle.ini_edit.proofs.SourceLineLemmas.{after_line-rest}
+use Rattle.ini_edit.proofs.ValueLemmas.{closes_line_end}
 
 -- the line end with which a text begins
 pub record IsEndFront (t f : Text) : Type 0 where
@@ -111,26 +117,64 @@ module _ {o : ParseOption} where
     are = ArePieces.more (Element.gap (Gap.white white (λ _. within))) ArePieces.none;
   }
 
--- a text's first line, before any text
+-- a text's first line, before a text
 record IsLineFront (o : ParseOption) (x : Text) (c : ℕ) (t f : Text) : Type 0 where
   whole : f ++ after_line t ≡ t
   is : IsGap o c f x
 
+-- a line ends in the text, or what comes behind its first line closes that
+abbrev IsEnded : (t x : Text) → Type 0
+IsEnded t x = Closes plain_ends x ⊎ (list_any is_line_end t ≡ true)
+
+any_later : (s t : Text) → list_all (λ c. not (is_line_end c)) s ≡ true
+    → list_any is_line_end (s ++ t) ≡ true
+    → list_any is_line_end t ≡ true
+any_later [] t all h = h
+any_later (d ∷ s) t all h =
+    let parts = and_parts (not (is_line_end d)) (list_all (λ c. not (is_line_end c)) s) all in
+    any_later s t parts.1 (at (is_line_end d) (not-true _ parts.0) h)
+  where
+    at : {y : Bool} (b : Bool) → b ≡ false → (b || y) ≡ true → y ≡ true
+    at true off h = absurd (false≢true (sym off))
+    at false off h = h
+
+-- the line end that follows a note closes it
+note_ends : (t f y x : Text) → Closes plain_ends (t ++ y) → IsEnded t x → IsEndFront t f
+    → Closes plain_ends (f ++ x)
+note_ends [] [] y x closes (inl ends) end = ends
+note_ends [] [] y x closes (inr none) end = absurd (false≢true none)
+note_ends [] (d ∷ f) y x closes ended end = absurd (let no : d ∷ (f ++ []) ≡ [] = end.whole in cc)
+note_ends (d ∷ t) [] y x closes ended end =
+    absurd (false≢true (sym (end.some (closes_line_end d closes))))
+note_ends (d ∷ t) (e ∷ f) y x closes ended end =
+    let whole : e ∷ (f ++ after_line_end (d ∷ t)) ≡ d ∷ t = end.whole in
+    let same : d ≡ e = cc in
+    subst (λ z. is_endpoint plain_ends z ≡ true) same closes
+
 module _ {o : ParseOption} {x : Text} where
   line_front : {c : ℕ} {r : Text} (ps : List Piece) → ArePieces o c ps r → pieces_items ps ≡ []
-      → is_line_end c ≡ false → (f : Text) × IsLineFront o x c (pieces_text ps) f
-  line_front [] are none within = ([], record { whole = refl; is = gap_nothing })
-  line_front {c} (p ∷ ps) (ArePieces.more e rest) none within =
+      → is_line_end c ≡ false → IsEnded (pieces_text ps) x
+      → (f : Text) × IsLineFront o x c (pieces_text ps) f
+  line_front [] are none within ended = ([], record { whole = refl; is = gap_nothing })
+  line_front {c} {r} (p ∷ ps) (ArePieces.more e rest) none within ended =
       let nothing = empty_front p.gives (pieces_items ps) none in
-      let w = white_within (quiet_front (as_quiet e nothing.0)) within in
-      at w.0 w.1 w.2 (λ inner. line_front {c = last_or c p.source} ps rest nothing.1 inner)
+      over (front_within (quiet_front (as_quiet e nothing.0)) within) refl refl ended
+      (λ inner later. line_front {c = last_or c p.source} ps rest nothing.1 inner later)
     where
       at : (d : ℕ) → p.source ≡ d ∷ [] → is_whitespace d ≡ true
-          → (is_line_end (last_or c p.source) ≡ false
+          → IsEnded (p.source ++ pieces_text ps) x
+          → (is_line_end (last_or c p.source) ≡ false → IsEnded (pieces_text ps) x
           → (f : Text) × IsLineFront o x (last_or c p.source) (pieces_text ps) f)
           → (f : Text) × IsLineFront o x c (p.source ++ pieces_text ps) f
-      at d is white more = by (is_line_end d) refl
+      at d is white ended more = by (is_line_end d) refl
         where
+          later : is_line_end d ≡ false → IsEnded (p.source ++ pieces_text ps) x → IsEnded (pieces_text ps) x
+          later other (inl closes) = inl closes
+          later other (inr some) =
+              inr (any_later (d ∷ []) (pieces_text ps)
+              (and_from (not (is_line_end d)) true (ap not other) refl)
+              (subst (λ s. list_any is_line_end (s ++ pieces_text ps) ≡ true) is some))
+
           by : (b : Bool) → is_line_end d ≡ b → (f : Text) × IsLineFront o x c (p.source ++ pieces_text ps) f
           by true end =
               let e = end_front (d ∷ pieces_text ps) in (
@@ -141,7 +185,8 @@ module _ {o : ParseOption} {x : Text} where
                 }),
               )
           by false other =
-              let m = more (subst (λ s. is_line_end (last_or c s) ≡ false) (sym is) other) in (
+              let m = more (subst (λ s. is_line_end (last_or c s) ≡ false) (sym is) other)
+              (later other ended) in (
                 d ∷ m.0,
                 subst (λ s. IsLineFront o x c (s ++ pieces_text ps) (d ∷ m.0)) (sym is) (record {
                   whole = ap (λ t. d ∷ (m.0 ++ t)) (cond-false (is_line_end d) _ _ other)
@@ -151,18 +196,73 @@ module _ {o : ParseOption} {x : Text} where
                 }),
               )
 
-  -- the header's own line stands before any text
+      -- a note goes up to the line's end
+      noted_front : {s z : Text} → may_have_note o (c ∷ []) ≡ true → Note s z → z ≡ pieces_text ps ++ r
+          → IsEnded (s ++ pieces_text ps) x → (f : Text) × IsLineFront o x c (s ++ pieces_text ps) f
+      noted_front {s} may remark follows ended =
+          let t = pieces_text ps in
+          let within_note = note_within remark in
+          let closes = subst (Closes plain_ends) follows (note_closes remark) in
+          let front = end_front t in
+          let later : IsEnded t x = elim ended [
+            | inl ends ↦ inl ends
+            | inr some ↦ inr (any_later s t within_note some)
+          ] in
+          let late : is_line_feed c ≡ false = (or_parts (is_line_feed c) _ within).0 in
+          let after = note_ends t front.0 r x closes later front.1 in (
+            s ++ front.0,
+            record {
+              whole = ap (λ l. (s ++ front.0) ++ l) (line_past s t within_note ∙ sym (line_there t r closes))
+                  ∙ append_assoc s front.0 (after_line_end t) ∙ ap (λ l. s ++ l) front.1.whole;
+              is = gap_more (Element.note may late (note_before (front.0 ++ x) after remark))
+                  (line_ends_gap front.0 front.1.all);
+            },
+          )
+
+      over : {s z : Text} → WithinLine o c s z → p.source ≡ s → z ≡ pieces_text ps ++ r
+          → IsEnded (p.source ++ pieces_text ps) x
+          → (is_line_end (last_or c p.source) ≡ false → IsEnded (pieces_text ps) x
+          → (f : Text) × IsLineFront o x (last_or c p.source) (pieces_text ps) f)
+          → (f : Text) × IsLineFront o x c (p.source ++ pieces_text ps) f
+      over (WithinLine.white {d} white) is follows ended more = at d is white ended more
+      over {s} (WithinLine.note may remark) is follows ended more =
+          subst (λ s. (f : Text) × IsLineFront o x c (s ++ pieces_text ps) f) (sym is)
+          (noted_front may remark follows
+          (subst (λ s. IsEnded (s ++ pieces_text ps) x) is ended))
+
+  -- the header's own line stands before any text, or, where a note ends it, before what closes it
   pub line_any : {c : ℕ} {gap r : Text} → (is_line_end c ≡ false) ⊎ BeginsWith is_line_end gap
+      → Closes plain_ends x ⊎ (is_line_end (last_or c (front_of gap (after_line gap))) ≡ true)
       → IsGap o c gap r → IsGap o c (front_of gap (after_line gap)) x
-  line_any {c} {gap} {r} named h = elim named [
+  line_any {c} {gap} {r} named ended h = elim named [
     | inl within ↦
-        let l = line_front h.pieces h.are h.nothing within in
+        let l = line_front h.pieces h.are h.nothing within
+        (subst (λ t. IsEnded t x) h.whole (ended_there within ended)) in
         subst (λ t. IsGap o c (front_of t (after_line t)) x) (sym h.whole)
         (subst (λ f. IsGap o c f x)
         (sym (front_is l.0 (after_line (pieces_text h.pieces)) (pieces_text h.pieces) l.1.whole)) l.1.is)
     | inr begins ↦ at gap begins
   ]
     where
+      last_any : (c : ℕ) (f t : Text) → is_line_end c ≡ false → is_line_end (last_or c f) ≡ true
+          → list_any is_line_end (f ++ t) ≡ true
+      last_any c [] t within end = absurd (both_ways (is_line_end c) within end)
+      last_any c (d ∷ f) t within end = by (is_line_end d) refl (λ other. last_any d f t other end)
+        where
+          by : (b : Bool) → is_line_end d ≡ b
+              → (is_line_end d ≡ false → list_any is_line_end (f ++ t) ≡ true)
+              → (is_line_end d || list_any is_line_end (f ++ t)) ≡ true
+          by true is more = or_left (is_line_end d) _ is
+          by false is more = or_right (is_line_end d) _ (more is)
+
+      ended_there : is_line_end c ≡ false
+          → Closes plain_ends x ⊎ (is_line_end (last_or c (front_of gap (after_line gap))) ≡ true)
+          → IsEnded gap x
+      ended_there within (inl closes) = inl closes
+      ended_there within (inr end) =
+          inr (subst (λ t. list_any is_line_end t ≡ true) (after_line-rest gap)
+          (last_any c (front_of gap (after_line gap)) (after_line gap) within end))
+
       at : (gap : Text) → BeginsWith is_line_end gap → IsGap o c (front_of gap (after_line gap)) x
       at [] begins = absurd (false≢true (sym begins))
       at (d ∷ t) begins =

@@ -13,11 +13,12 @@ use Rattle.ini_text.specs.Grammar.CharacterKinds.{open_bracket}
 use Rattle.ini_text.specs.Grammar.Elements.{Element, Header}
 use Rattle.ini_text.specs.Grammar.Pieces.{ArePieces, pieces_text}
 use Rattle.ini_text.specs.Grammar.Positions.{is_column_one, last_or}
-use Rattle.ini_text.specs.Grammar.Strings.{Closes, Str, bracketed_name_ends}
+use Rattle.ini_text.specs.Grammar.Strings.{Closes, Str, bracketed_name_ends, noted}
 use Rattle.ini_text.specs.Grammar.Values.{MoreLines}
 use Rattle.ini_text.specs.Parsing.Fronts.{front_of}
 use Rattle.ini_text.specs.declared.option.ParseOption.{ParseOption}
 use Rattle.ini_text.proofs.LawLemmas.PieceLemmas.{last_or-append, pieces_split, pieces_text-append}
+use Rattle.ini_text.proofs.ReaderLemmas.StringReaderLemmas.{note_parts}
 use Rattle.ini_text.proofs.StringLemmas.FrontLemmas.{front_grows, front_is}
 use Rattle.ini_text.proofs.StringLemmas.ScanLemmas.{last_or_append}
 use Rattle.ini.specs.Texts.{Text}
@@ -31,6 +32,7 @@ use Rattle.ini_edit.specs.SourceLines.{blanks_at_end, has_lone_return, is_empty}
 use Rattle.ini_edit.specs.SourceLines.{line_end_at_end}
 use Rattle.ini_edit.proofs.BlankLineLemmas.{AreBlank}
 use Rattle.ini_edit.proofs.BlankValueLemmas.{EndBefore, are_blank}
+use Rattle.ini_edit.proofs.DroppedKeyLemmas.{blank_no_end}
 use Rattle.ini_edit.proofs.GapCutLemmas.{AreBlanks, AreParts, IsCut, blank_cut, blanks_there, comment_cut}
 use Rattle.ini_edit.proofs.GapCutLemmas.{cut_gap, cut_on}
 use Rattle.ini_edit.proofs.GapCutLemmas.{cut_rest_gap, end_cut, line_cut}
@@ -60,6 +62,17 @@ pub record StandsIn (is_general is_last : Bool) (c : ℕ) (gap r : Text) : Type 
   pub named : is_general ≡ false → (is_line_end c ≡ false) ⊎ BeginsWith is_line_end gap
   pub last : is_last ≡ true → r ≡ []
   pub apart : BeginsWithNo is_blank_or_line_end r
+
+-- the header's own line ends with its line end, unless nothing follows
+pub header_line : (gap : Text) (c : ℕ) → (after_line gap ≡ [])
+    ⊎ (is_line_end (last_or c (front_of gap (after_line gap))) ≡ true)
+header_line gap c =
+    let line = line_of gap in
+    let is = front_is line.0 (after_line gap) gap line.1.whole in
+    elim line.1.ends [
+      | inl none ↦ inl none
+      | inr end ↦ inr (ap (λ f. is_line_end (last_or c f)) is ∙ end c)
+    ]
 
 -- a comment directly after the header's line stands behind that
 pub header_feed : (gap : Text) (c : ℕ) → BeginsWith is_comment_mark (after_line gap)
@@ -471,7 +484,7 @@ first_stands {o} false is_last {gap = gap} {q = q} around h is =
     (comments_stand (around.named refl) h) (after_header_stands (around.named refl) h)
     o.enabled_indented_mutiline_value is
 
--- after a header a line end is next, or its last character is none
+-- after a header a line end is next, or its last character is none, as the blank before a note
 pub header_opens : {o : ParseOption} {b s z name : Text} (c : ℕ) → Element o b s z (Header name ∷ [])
     → (is_line_end (last_or c s) ≡ false) ⊎ BeginsWith is_line_end z
 header_opens c (Element.header {s = s} off str) = inl (ap is_line_end (last_or_append open_bracket 93 s))
@@ -486,6 +499,9 @@ header_opens c (Element.bracketed_header on (Str.closed row closes) i) = inr (cl
         | inr none ↦ absurd (false≢true none)
       ])
     ]
+header_opens {o} {z = z} c (Element.bracketed_header on (Str.before_note {s} d row raw inside note) i) =
+    inl (ap is_line_end (last_or_append open_bracket d s)
+    ∙ blank_no_end d (note_parts (noted o bracketed_name_ends) d z note).1)
 header_opens c (Element.bracketed_header on (Str.lone special row text) i) = absurd (false≢true text)
 
 pub begins_gap : (gap r : Text) → BeginsWith is_line_end (gap ++ r) → BeginsWithNo is_blank_or_line_end r

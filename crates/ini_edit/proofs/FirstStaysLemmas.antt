@@ -3,13 +3,14 @@ use Rattle.std.proofs.Common.{◌≡◌, ◌∙◌, ◌⊎◌, ◌&&◌, ◌||�
 use Rattle.std.proofs.Common.{None}
 use Rattle.std.proofs.Common.{Option, Some, ap, append_assoc, append-nil, inl, inr, refl, subst, sym}
 use Rattle.std.proofs.lemmas.Bool.{and_from, both_ways, cond-false, cond-true, false≢true, not-false}
-use Rattle.std.proofs.lemmas.Bool.{or_parts}
+use Rattle.std.proofs.lemmas.Bool.{or_left, or_parts}
 use Rattle.std.proofs.lemmas.List.Folds.{list_all-append}
 use Rattle.std.specs.List.{list_all}
 use Rattle.std.specs.Option.{option_or}
 use Rattle.ini_text.specs.Grammar.CharacterKinds.{BeginsWith, is_comment_mark, is_line_end, is_line_feed}
 use Rattle.ini_text.specs.Grammar.CharacterKinds.{line_feed}
 use Rattle.ini_text.specs.Grammar.Positions.{is_column_one, last_or}
+use Rattle.ini_text.specs.Grammar.Strings.{Closes, plain_ends}
 use Rattle.ini_text.specs.Parsing.Fronts.{front_of}
 use Rattle.ini_text.specs.declared.option.ParseOption.{ParseOption}
 use Rattle.ini_text.proofs.LawLemmas.PieceLemmas.{last_or-append}
@@ -25,7 +26,7 @@ use Rattle.ini_edit.specs.SourceLines.{line_end_at_end}
 use Rattle.ini_edit.proofs.CommentRowLemmas.{IsNewLine, comments_gap, comments_whole}
 use Rattle.ini_edit.proofs.FirstFrontLemmas.{comment_front, comments_glued, end_front}
 use Rattle.ini_edit.proofs.FirstFrontLemmas.{line_any, line_some}
-use Rattle.ini_edit.proofs.FirstPlaceLemmas.{StandsIn, header_feed}
+use Rattle.ini_edit.proofs.FirstPlaceLemmas.{StandsIn, header_feed, header_line}
 use Rattle.ini_edit.proofs.GapCutLemmas.{blanks_there}
 use Rattle.ini_edit.proofs.GapLemmas.{EndsThere, gap_join, white_gap}
 use Rattle.ini_edit.proofs.GapPartLemmas.{gap_nothing}
@@ -71,6 +72,10 @@ front_ended e p = p.before ++ cond p.starts [] e
 abbrev pub Stays : ParseOption → ℕ → Text → GapPlace → Type 0
 Stays o c e p = (x : Text) → IsGap o c (front_ended e p) x
 
+new_line_closes : {e : Text} → IsNewLine e → (x : Text) → Closes plain_ends (e ++ x)
+new_line_closes IsNewLine.lf x = refl
+new_line_closes IsNewLine.cr_lf x = refl
+
 glue_any : {o : ParseOption} {e : Text} → IsNewLine e → (b : Bool) {d : ℕ} {x : Text} → IsGap o d
     (cond b [] e) x
 glue_any end true = gap_nothing
@@ -104,8 +109,17 @@ module _ {o : ParseOption} {c : ℕ} {gap e : Text} (end : IsNewLine e) where
   header_stays : {r : Text} → (is_line_end c ≡ false) ⊎ BeginsWith is_line_end gap → IsGap o c gap r
       → Stays o c e (after_header gap)
   header_stays named h x =
-      gap_join (line_any named h)
-      (glue_any end (not (is_empty (line_end_at_end (front_of gap (after_line gap))))))
+      let front = front_of gap (after_line gap) in
+      gap_join (line_any named (glue_ends (is_empty (line_end_at_end front)) refl) h)
+      (glue_any end (not (is_empty (line_end_at_end front))))
+    where
+      glue_ends : (b : Bool) → is_empty (line_end_at_end (front_of gap (after_line gap))) ≡ b
+          → Closes plain_ends (cond
+          (not (is_empty (line_end_at_end (front_of gap (after_line gap))))) [] e ++ x)
+          ⊎ (is_line_end (last_or c (front_of gap (after_line gap))) ≡ true)
+      glue_ends true none =
+          inl (subst (λ b. Closes plain_ends (cond (not b) [] e ++ x)) (sym none) (new_line_closes end x))
+      glue_ends false some = inr (end_ends c (front_of gap (after_line gap)) some)
 
   comments_stay : {r : Text} → (is_line_end c ≡ false) ⊎ BeginsWith is_line_end gap → IsGap o c gap r
       → Stays o c e (after_header_comments gap)
@@ -139,7 +153,7 @@ module _ {o : ParseOption} {c : ℕ} {gap e : Text} (end : IsNewLine e) where
           (subst (BeginsWith is_comment_mark) (after_comments-rest false line)
           (begins_mark comments rest parts.0 (comments_all line))) (not-false _ parts.1) in
           let all : IsGap o c (front_of gap line ++ (comments ++ glue)) x =
-          gap_join (line_any named h)
+          gap_join (line_any named (inr (or_left (is_line_feed (last_or c (front_of gap line))) _ feed)) h)
           (comments_gap (comments ++ glue) feed (comments_glued comments end (comments_all line))) in
           subst (λ p. IsGap o c (front_ended e p) x)
           (sym (cond-false (is_empty comments || not (is_column_one (front_of gap line))) _ _ both))
@@ -206,8 +220,10 @@ module _ {o : ParseOption} {c : ℕ} {gap e : Text} (end : IsNewLine e) where
 
   past_stays : (rest : Text) (q : GapPlace) → past_blank_lines gap rest ≡ Some q
       → front_of gap rest ++ rest ≡ gap
-      → ((x : Text) → IsGap o c (front_of gap rest) x) → Stays o c e q
-  past_stays rest q is whole any x = by indents refl is
+      → (rest ≡ []) ⊎ (is_line_end (last_or c (front_of gap rest)) ≡ true)
+      → ((x : Text) → Closes plain_ends x ⊎ (is_line_end (last_or c (front_of gap rest)) ≡ true)
+      → IsGap o c (front_of gap rest) x) → Stays o c e q
+  past_stays rest q is whole ended any x = by indents refl is
     where
       after : Text
       after = after_blank_lines rest
@@ -247,6 +263,17 @@ module _ {o : ParseOption} {c : ℕ} {gap e : Text} (end : IsNewLine e) where
           ∙ and_from _ _ (blanks_there rest).all (glue_all starts))
           (EndsThere.line (ends (is_empty (line_end_at_end lines)) refl))
 
+      -- where nothing follows the front the line end does
+      closed : (rest ≡ []) ⊎ (is_line_end (last_or c (front_of gap rest)) ≡ true)
+          → Closes plain_ends ((lines ++ glue) ++ x)
+          ⊎ (is_line_end (last_or c (front_of gap rest)) ≡ true)
+      closed (inl none) =
+          inl (subst (λ t. Closes plain_ends ((front_of t (after_blank_lines t)
+          ++ cond (not (is_empty (line_end_at_end (front_of t (after_blank_lines t))))) [] e) ++ x))
+          (sym none)
+          (new_line_closes end x))
+      closed (inr end) = inr end
+
       by : (b : Bool) → indents ≡ b → cond b None (Some past) ≡ Some q → IsGap o c (front_ended e q) x
       by true t h = absurd (let no : ◌≡◌ {A = Option GapPlace} None (Some q) = h in cc)
       by false t h =
@@ -254,7 +281,7 @@ module _ {o : ParseOption} {c : ℕ} {gap e : Text} (end : IsNewLine e) where
           subst (λ p. IsGap o c (front_ended e p) x) same
           (subst (λ t. IsGap o c t x)
           (sym (append_assoc (front_of gap rest) lines glue) ∙ ap (λ t. t ++ glue) (sym grown))
-          (gap_join (any ((lines ++ glue) ++ x)) white))
+          (gap_join (any ((lines ++ glue) ++ x) (closed ended)) white))
 
 -- what holds of the places that are looked at holds of the one that is chosen
 module _ (gap : Text) (holds : GapPlace → Type 0) (is_last : Bool) (wanted first q : GapPlace)
@@ -281,14 +308,16 @@ first_stays {o} {c} {gap} {r} {e} end true is_last q around h is =
     chosen_holds gap (Stays o c e) is_last (after_licence gap) (at_front gap) q
     (λ p. freed_stays e is_last p q)
     (λ past. past_stays end gap q past (ap (λ t. t ++ gap) (front_of_all gap))
-    (λ x. subst (λ t. IsGap o c t x) (sym (front_of_all gap)) gap_nothing))
+    (inr (ap (λ t. is_line_end (last_or c t)) (front_of_all gap)
+    ∙ or_left (is_line_feed c) _ (around.general refl)))
+    (λ x ended. subst (λ t. IsGap o c t x) (sym (front_of_all gap)) gap_nothing))
     (licence_stays end h (around.general refl)) (front_stays e gap)
     o.enabled_indented_mutiline_value is
 first_stays {o} {c} {gap} {r} {e} end false is_last q around h is =
     chosen_holds gap (Stays o c e) is_last (after_header_comments gap)
     (after_header gap) q (λ p. freed_stays e is_last p q)
-    (λ past. past_stays end (after_line gap) q past (after_line-rest gap)
-    (λ x. line_any (around.named refl) h))
+    (λ past. past_stays end (after_line gap) q past (after_line-rest gap) (header_line gap c)
+    (λ x ended. line_any (around.named refl) ended h))
     (comments_stay end (around.named refl) h) (header_stays end (around.named refl) h)
     o.enabled_indented_mutiline_value is
 
@@ -304,7 +333,8 @@ pub first_some : (o : ParseOption) (is_last : Bool) (gap : Text) (q : GapPlace) 
     → first_place o false is_last gap ≡ Some q → is_empty q.before ≡ false
 first_some o is_last gap q begins is =
     chosen_holds gap HasFront is_last (after_header_comments gap) (after_header gap) q freed_some past_some
-    (by (is_empty comments || not (is_column_one (front_of gap line))) refl) (line_some gap begins) o.enabled_indented_mutiline_value is
+    (by (is_empty comments || not (is_column_one (front_of gap line))) refl)
+    (line_some gap begins) o.enabled_indented_mutiline_value is
   where
     line : Text
     line = after_line gap

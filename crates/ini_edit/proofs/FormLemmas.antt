@@ -17,12 +17,9 @@ use Rattle.ini_edit.specs.Inside.SourceEnds.{IsTried}
 use Rattle.ini_edit.specs.Quotes.{written_in}
 use Rattle.ini_edit.specs.SourceWritten.{HasForm, IsFirstReadAs, IsReadAs, Style, new_pair, value_forms}
 use Rattle.ini_edit.specs.Sources.{PairPiece}
+use Rattle.ini_edit.proofs.CharsLemmas.{chars-double}
 
 -- the quotes of the code
-chars-double : chars (34 ∷ []) ≡ double_quote ∷ []
-unfolding chars
-chars-double = refl
-
 chars-single : chars (39 ∷ []) ≡ single_quote ∷ []
 unfolding chars
 chars-single = refl
@@ -120,10 +117,11 @@ abbrev piece_of : ParseOption → Style → (indented : Bool)
 piece_of o style indented indent raw_key space key value source lines gap = record {
   stretches = record {
     key = (if indented then indent else []) ++ raw_key;
-    separator = style.separator;
+    separator = Some style.separator;
     space_before = space;
     raw_value = source;
     space_after = [];
+    note = [];
     trailing_lines = if o.enabled_indented_mutiline_value then lines else [];
   };
   key = key;

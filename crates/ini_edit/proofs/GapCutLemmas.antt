@@ -16,6 +16,7 @@ use Rattle.ini_text.specs.Grammar.Keys.{begins_indented_key, begins_note}
 use Rattle.ini_text.specs.Grammar.Lines.{Note}
 use Rattle.ini_text.specs.Grammar.Pieces.{ArePieces, Piece, pieces_items, pieces_text}
 use Rattle.ini_text.specs.Grammar.Positions.{last_or}
+use Rattle.ini_text.specs.Grammar.Strings.{Closes, plain_ends}
 use Rattle.ini_text.specs.Parsing.Fronts.{front_of}
 use Rattle.ini_text.specs.declared.option.ParseOption.{ParseOption}
 use Rattle.ini_text.proofs.GrammarLemmas.ItemLemmas.{element-some}
@@ -31,7 +32,8 @@ use Rattle.ini_edit.specs.SourceLines.{after_line_feed, blanks_at_end}
 use Rattle.ini_edit.proofs.CommentLemmas.{marked_comment}
 use Rattle.ini_edit.proofs.GapLemmas.{empty_front, line_end_element}
 use Rattle.ini_edit.proofs.QuietLemmas.{Free, IsComment, NoteFront, Quiet, Tail, as_quiet, mark_no_end}
-use Rattle.ini_edit.proofs.QuietLemmas.{quiet_front, white_within}
+use Rattle.ini_edit.proofs.QuietLemmas.{WithinLine, front_within, note_closes, note_within, quiet_front}
+use Rattle.ini_edit.proofs.ValueLemmas.{closes_line_end}
 
 -- pieces, of which the text from one on is this
 pub record IsCut (ps : List Piece) (m : Text) : Type 0 where
@@ -120,6 +122,18 @@ ended_line : (t : Text) → BeginsWith is_line_end t → after_line_end t ≡ af
 ended_line [] h = refl
 ended_line (c ∷ t) h = sym (cond-true (is_line_end c) _ _ h)
 
+-- what ends no line stands before a line's end
+pub line_past : (s t : Text) → list_all (λ c. not (is_line_end c)) s ≡ true
+    → after_line (s ++ t) ≡ after_line t
+line_past [] t all = refl
+line_past (c ∷ s) t all =
+    let parts = and_parts (not (is_line_end c)) (list_all (λ c. not (is_line_end c)) s) all in
+    cond-false (is_line_end c) _ _ (not-true (is_line_end c) parts.0) ∙ line_past s t parts.1
+
+pub line_there : (t r : Text) → Closes plain_ends (t ++ r) → after_line_end t ≡ after_line t
+line_there [] r closes = refl
+line_there (d ∷ t) r closes = ended_line (d ∷ t) (closes_line_end d closes)
+
 module _ {o : ParseOption} where
   -- after a line feed, and after a line end
   feed_cut : {c : ℕ} {r : Text} (ps : List Piece) → ArePieces o c ps r → pieces_items ps ≡ []
@@ -177,16 +191,16 @@ module _ {o : ParseOption} where
               cut_here (p ∷ ps) (sym (ap (λ t. after_line_end (t ++ pieces_text ps)) is
               ∙ cond-false _ _ _ feed ∙ cond-false _ _ _ h ∙ ap (λ t. t ++ pieces_text ps) (sym is)))
 
-  -- after the line in which a header stands
+  -- after the line in which a header stands, in which a note may stand
   line_cut_within : {c : ℕ} {r : Text} (ps : List Piece) → ArePieces o c ps r → pieces_items ps ≡ []
       → is_line_end c ≡ false → IsCut ps (after_line (pieces_text ps))
   line_cut_within [] are none apart = cut_here [] refl
-  line_cut_within {c} (p ∷ ps) (ArePieces.more e rest) none apart =
+  line_cut_within {c} {r} (p ∷ ps) (ArePieces.more e rest) none apart =
       let parts = empty_front p.gives (pieces_items ps) none in
-      let one = white_within (quiet_front (as_quiet e parts.0)) apart in
-      at one.0 one.1 (end_cut (p ∷ ps) (ArePieces.more e rest) none)
-      (λ other. line_cut_within {c = last_or c p.source} ps rest parts.1
-      (ap (λ s. is_line_end (last_or c s)) one.1 ∙ other))
+      over (front_within (quiet_front (as_quiet e parts.0)) apart) refl refl
+      (end_cut (p ∷ ps) (ArePieces.more e rest) none) (end_cut ps rest parts.1)
+      (λ d is other. line_cut_within {c = last_or c p.source} ps rest parts.1
+      (ap (λ s. is_line_end (last_or c s)) is ∙ other))
     where
       at : (d : ℕ) → p.source ≡ d ∷ [] → IsCut (p ∷ ps) (after_line_end (p.source ++ pieces_text ps))
           → (is_line_end d ≡ false → IsCut ps (after_line (pieces_text ps)))
@@ -200,6 +214,18 @@ module _ {o : ParseOption} where
           by false other =
               cut_later p (sym (ap (λ s. after_line (s ++ pieces_text ps)) is ∙ cond-false _ _ _ other))
               (later other)
+
+      over : {s z : Text} → WithinLine o c s z → p.source ≡ s → z ≡ pieces_text ps ++ r
+          → IsCut (p ∷ ps) (after_line_end (p.source ++ pieces_text ps))
+          → IsCut ps (after_line_end (pieces_text ps))
+          → ((d : ℕ) → p.source ≡ d ∷ [] → is_line_end d ≡ false → IsCut ps (after_line (pieces_text ps)))
+          → IsCut (p ∷ ps) (after_line (p.source ++ pieces_text ps))
+      over (WithinLine.white {d} q) is follows ended next later = at d is ended (later d is)
+      over {s} (WithinLine.note may remark) is follows ended next later =
+          cut_later p (sym (ap (λ s. after_line (s ++ pieces_text ps)) is
+          ∙ line_past s (pieces_text ps) (note_within remark)))
+          (subst (IsCut ps) (line_there (pieces_text ps) r (subst (Closes plain_ends) follows
+          (note_closes remark))) next)
 
   pub line_cut : {c : ℕ} {r : Text} (ps : List Piece) → ArePieces o c ps r → pieces_items ps ≡ []
       → (is_line_end c ≡ false) ⊎ BeginsWith is_line_end (pieces_text ps)
@@ -269,7 +295,7 @@ module _ {o : ParseOption} where
           ∙ ap (λ t. after_comments true (s ++ t)) end
           ∙ ap (after_comments true) (append-nil s) ∙ comment_to_end s all))
           (after (λ mark. absurd (false≢true (sym (subst (BeginsWith is_comment_mark) end mark)))))
-      over (IsComment.after_cr on starts late remark) is follows column after =
+      over (IsComment.alone may late remark) is follows column after =
           absurd (both_ways (is_line_feed c) late column)
 
       at : (s : Text) → p.source ≡ s → 1 ≤ length s
@@ -420,7 +446,8 @@ no_indent_cut w x s t lines rest some all apart are h =
 
 -- as no key that the text's end cuts short
 no_key_cut : (o : ParseOption) (w s t lines rest : Text) → BeginsWith is_blank w → list_all is_blank w ≡ true
-    → BeginsWith (begins_indented_key o) s → AreBlanks ((w ++ s) ++ t) lines rest → HasNoBlanks lines rest → ⊥
+    → BeginsWith (begins_indented_key o) s → AreBlanks ((w ++ s) ++ t) lines rest → HasNoBlanks lines rest
+    → ⊥
 no_key_cut o w [] t lines rest some all begins are h = false≢true (sym begins)
 no_key_cut o w (x ∷ s) t lines rest some all begins are h =
     no_indent_cut w x s t lines rest some all (key_other_kind o x begins) are h
@@ -468,14 +495,16 @@ module _ {o : ParseOption} where
           by : (b : Bool) → is_blank_or_line_end d ≡ b → IsCut (p ∷ ps) rest
           by true blank = within (d ∷ []) is (and_from _ _ blank refl) next
           by false other = before is other
-      over (Quiet.anywhere (Free.comment {m = m} s one mark all)) is next = before is (mark_other_kind m mark)
+      over (Quiet.anywhere (Free.comment {m = m} s one mark all)) is next = before is
+          (mark_other_kind m mark)
       over (Quiet.at_end (Tail.comment {m = m} one mark all)) is next = before is (mark_other_kind m mark)
       over (Quiet.at_end (Tail.blanks {w = w} i)) is next = within w is (all_blank w i.blank) next
       over (Quiet.at_end (Tail.key {w = w} s i begins)) is next =
           absurd (no_key_cut o w s (pieces_text ps) lines rest i.some i.blank begins
           (subst (λ u. AreBlanks (u ++ pieces_text ps) lines rest) is blanks) h)
-      over (Quiet.at_line_end on (NoteFront.after_cr starts late) (Note.note {m} mark all closes)) is next =
+      over (Quiet.at_line_end (NoteFront.alone may late) (Note.note {m} mark all closes)) is next =
           before is (mark_other_kind m mark)
-      over (Quiet.at_line_end on (NoteFront.indented {w = w} i) (Note.note {m} {s} mark all closes)) is next =
+      over (Quiet.at_line_end (NoteFront.indented {w = w} on i) (Note.note {m} {s} mark all closes)) is next
+          =
           absurd (no_indent_cut w m s (pieces_text ps) lines rest i.some i.blank (mark_other_kind m mark)
           (subst (λ u. AreBlanks (u ++ pieces_text ps) lines rest) is blanks) h)

@@ -8,7 +8,7 @@ use Rattle.std.proofs.lemmas.List.Folds.{list_all-append}
 use Rattle.std.specs.List.{list_all}
 use Rattle.ini_text.specs.Grammar.CharacterKinds.{BeginsWith, is_blank, is_comment_mark}
 use Rattle.ini_text.specs.Grammar.CharacterKinds.{is_line_end, line_feed, space}
-use Rattle.ini_text.specs.Grammar.Elements.{Element, Gap, Given}
+use Rattle.ini_text.specs.Grammar.Elements.{Element, Gap, Given, may_have_note}
 use Rattle.ini_text.specs.Grammar.Keys.{Indentation}
 use Rattle.ini_text.specs.Grammar.Pieces.{ArePieces, Piece, pieces_items, pieces_text}
 use Rattle.ini_text.specs.Grammar.Positions.{is_column_one, last_or, starts_line}
@@ -30,17 +30,16 @@ use Rattle.ini_edit.proofs.InPlaceLemmas.{in_place-join, in_place-split}
 use Rattle.ini_edit.proofs.QuietLemmas.{IsComment, QuietFront, as_quiet, line_end_no_mark, quiet_front}
 use Rattle.ini_edit.proofs.SpanLemmas.{spans_elements}
 
--- where a comment begins: in column one, or, with indented comments, behind a CR
+-- where a comment begins: in column one, or where a note may stand
 pub data CommentPlace (o : ParseOption) (b : Text) : Type 0 where
   column : is_column_one b ≡ true → CommentPlace o b
-  after_cr : o.enabled_indented_comment ≡ true → starts_line b ≡ true → is_column_one b ≡ false
-      → CommentPlace o b
+  alone : may_have_note o b ≡ true → is_column_one b ≡ false → CommentPlace o b
 
 comment_place : {o : ParseOption} {b s r : Text} {gives : List Given} → IsComment o b s r gives
     → CommentPlace o b
 comment_place (IsComment.whole s one mark all) = CommentPlace.column one
 comment_place (IsComment.last one mark all) = CommentPlace.column one
-comment_place (IsComment.after_cr on starts late remark) = CommentPlace.after_cr on starts late
+comment_place (IsComment.alone may late remark) = CommentPlace.alone may late
 
 pub pieces_place : {o : ParseOption} {c : ℕ} {r : Text} (ps : List Piece) → ArePieces o c ps r
     → BeginsWith is_comment_mark (pieces_text ps) → CommentPlace o (c ∷ [])
@@ -58,7 +57,7 @@ pub line_end_element : {o : ParseOption} {b s r : Text} → QuietFront o b s r �
     → length s ≡ 1
 line_end_element (QuietFront.blanks {w = w} t i) h = no_blank_line w t i.some h
 line_end_element (QuietFront.white q n) h = omega arith
-line_end_element (QuietFront.comment {m = m} starts mark is) h =
+line_end_element (QuietFront.comment {m = m} mark is) h =
     absurd (both_ways (is_comment_mark m) (line_end_no_mark m h) mark)
 
 pub empty_front : (xs ys : List Given) → xs ++ ys ≡ [] → (xs ≡ []) × (ys ≡ [])
@@ -159,7 +158,8 @@ pub ends_later : {r : Text} {c d : ℕ} → (is_line_end c ≡ true → is_line_
 ends_later next (EndsThere.text is) = EndsThere.text is
 ends_later next (EndsThere.line end) = EndsThere.line (next end)
 
-pub after_line : (e : ℕ) (t : Text) → is_line_end (last_or e t) ≡ true → is_line_end (last_or line_feed t) ≡ true
+pub after_line : (e : ℕ) (t : Text) → is_line_end (last_or e t) ≡ true
+    → is_line_end (last_or line_feed t) ≡ true
 after_line e [] h = refl
 after_line e (x ∷ t) h = h
 

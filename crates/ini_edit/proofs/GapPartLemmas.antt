@@ -124,7 +124,7 @@ module _ {o : ParseOption} {b : Text} (y : ℕ) (k : Text) (x : ℕ) (more : Tex
   no_element (Quiet.anywhere (Free.comment {m = m} s one mark all)) is some starts =
       no_comment y k x more m s is mark all starts
   no_element (Quiet.at_end tail) is some starts = some refl
-  no_element (Quiet.at_line_end {w = w} {s = s} on front remark) is some starts =
+  no_element (Quiet.at_line_end {w = w} {s = s} front remark) is some starts =
       let all = subst (λ t. list_all no_end t ≡ true) is (note_line_within front remark) in
       both_ways (is_line_end (last_or y k))
       (not-true _ (all_last no_end y k (all_front no_end (y ∷ k) (x ∷ more) all))) (starts_end starts)
@@ -207,7 +207,7 @@ module _ {o : ParseOption} where
       let empty : w ≡ [] = sym (indented_end c w i.at_line_start i.blank) ∙ bare in
       absurd (false≢true (sym (subst (BeginsWith is_blank) empty i.some)))
   quiet_any x (Quiet.at_end tail) some bare = absurd (false≢true (sym some))
-  quiet_any {y = y} x (Quiet.at_line_end on front remark) some bare = note_ahead y remark some
+  quiet_any {y = y} x (Quiet.at_line_end front remark) some bare = note_ahead y remark some
 
   pieces_any : {c : ℕ} {y x : Text} (ps : List Piece) → pieces_items ps ≡ [] → BeginsWith no_end y
       → indentation_at_end c (pieces_text ps) ≡ [] → ArePieces o c ps y → ArePieces o c ps x

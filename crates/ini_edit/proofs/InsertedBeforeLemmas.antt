@@ -30,6 +30,7 @@ use Rattle.ini_edit.specs.declared.error.EditError.TheVariants as errors
 use Rattle.ini_edit.specs.declared.source.written.NewPair.{NewPair}
 use Rattle.ini_edit.specs.Sources.{PairPiece, Pieces, SectionPiece, sections_text}
 use Rattle.ini_edit.proofs.MakerLemmas.{MakesReadPairs, new_pairs_read}
+use Rattle.ini_edit.proofs.NewPairLemmas.{read_key}
 use Rattle.ini_edit.proofs.NewStyleLemmas.{new_style_plain, source_for, style_is_new}
 use Rattle.ini_edit.proofs.PutBeforeSectionLemmas.{put_before_sections}
 use Rattle.ini_edit.proofs.SourceAddLemmas.{IsNewEnd}
@@ -123,7 +124,7 @@ module _ (o : ParseOption) (w : WriteOption) (key value source : Text) {ss : Lis
   inserted_sections {new} same whole writable first put are =
       let e = written_end (line_end_of w.line_separator (sections_text ss)) in
       let makes : MakesReadPairs o maker_there =
-      new_pairs_read writable.plain_key writable.key_read_back
+      new_pairs_read writable.plain_key (read_key writable)
       (new_style_plain o w p.pair.before (p.pair.here ∷ p.pair.after) writable.plain_separator at whole are)
       (source_for first) in
       subst (AreSections o) (sym (place_set at new))

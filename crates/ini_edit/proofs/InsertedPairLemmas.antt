@@ -11,15 +11,16 @@ use Rattle.ini_text.specs.Parsing.Fronts.{front_of}
 use Rattle.ini_text.specs.Parsing.Items.{string_text}
 use Rattle.ini_text.specs.declared.option.ParseOption.{ParseOption}
 use Rattle.ini.specs.Texts.{Text}
-use Rattle.ini_edit.specs.Inside.SourceEnds.{IsPlaceAt, end_put, end_put_at, raw_value_of, trailing_of}
+use Rattle.ini_edit.specs.Inside.SourceEnds.{IsPlaceAt, end_put, end_put_at, trailing_of, word_of}
 use Rattle.ini_edit.specs.Inside.SourceEnds.{with_new_end}
 use Rattle.ini_edit.specs.SourceEdits.{with_pairs}
 use Rattle.ini_edit.specs.SourceEditsAdd.{Maker, pair_put_after, pair_put_before, pair_put_last, would_go_on}
 use Rattle.ini_edit.specs.SourceLines.{comments_at_end, is_empty}
 use Rattle.ini_edit.specs.SourcePlaces.{Place, exchanged, gap_of, gap_put, is_nil, last_before_gap}
-use Rattle.ini_edit.specs.SourcePlaces.{last_changed, last_place}
+use Rattle.ini_edit.specs.SourcePlaces.{last_changed, last_place, last_word, with_end, with_last_word}
 use Rattle.ini_edit.specs.Sources.{PairPiece, SectionPiece}
 use Rattle.ini_edit.specs.declared.source.pair.ends.NewEnd.{NewEnd}
+use Rattle.ini_edit.proofs.ClosedPairLemmas.{same_word}
 use Rattle.ini_edit.proofs.SourcePlaceLemmas.{place_drop_put, place_insert, place_insert_after, place_read}
 use Rattle.ini_edit.proofs.SourcePlaceLemmas.{place_take_put}
 
@@ -32,30 +33,21 @@ put_after_place {p = p} {i} at new other is =
     ∙ set_at p.before p.here (new ∷ p.after) other i (sym at.index)
 
 -- the last of the pairs before a place has another gap alone
-kept_end : (e : NewEnd) (x : PairPiece) (xs : List PairPiece) → e.raw_value ≡ None
+kept_end : (e : NewEnd) (x : PairPiece) (xs : List PairPiece) → e.last_word ≡ None
     → string_text e.trailing_lines ≡ trailing_of (x ∷ xs)
     → last_changed (with_new_end e) (x ∷ xs)
     ≡ last_changed (λ q. record q { after = string_text e.after }) (x ∷ xs)
 kept_end e x [] none same =
-    ap (λ v. record x {
-      stretches = record x.stretches {
-        raw_value = raw_value_of x.stretches.raw_value v;
-        trailing_lines = string_text e.trailing_lines;
-      };
-      after = string_text e.after;
-    } ∷ []) none
-    ∙ ap (λ t. record x {
-      stretches = record x.stretches { trailing_lines = t };
-      after = string_text
-          e.after;
-    } ∷ [])
-    same
+    let lines = string_text e.trailing_lines in
+    let gap = string_text e.after in
+    ap (λ w. with_end lines gap (with_last_word (word_of (last_word x) w) x) ∷ []) none
+    ∙ ap (λ q. with_end lines gap q ∷ []) (same_word x) ∙ ap (λ t. with_end t gap x ∷ []) same
 kept_end e x (y ∷ xs) none same = ap (λ l. x ∷ l) (kept_end e y xs none same)
 
 -- before the one at a place, after another gap there
 pub put_before_place : (e : NewEnd) (s : SectionPiece) {t : SectionPiece} {p : Place PairPiece} {i : ℕ}
     (at : IsPlaceAt s.pairs p i) (new : PairPiece) → t ≡ with_pairs s (insert s.pairs i new)
-    → e.raw_value ≡ None → string_text e.trailing_lines ≡ trailing_of p.before
+    → e.last_word ≡ None → string_text e.trailing_lines ≡ trailing_of p.before
     → end_put_at e i t ≡ gap_put (string_text e.after) s p.before (new ∷ p.here ∷ p.after)
 put_before_place e s {t} {p} {i} at new is none same =
     let put = is ∙ ap (with_pairs s) (place_insert at new) in

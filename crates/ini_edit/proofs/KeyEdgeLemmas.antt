@@ -1,5 +1,6 @@
 -- White space at the ends of a text, found character by character, and taken off.
-use Rattle.std.proofs.Common.{◌≡◌, ◌∙◌, ℕ, Bool, true, false, ◌&&◌, cond, eqb, List, [], ◌∷◌, ◌++◌, length, refl}
+use Rattle.std.proofs.Common.{◌≡◌, ◌∙◌, ℕ, Bool, true, false, ◌&&◌, cond, eqb, List, [], ◌∷◌, ◌++◌, length}
+use Rattle.std.proofs.Common.{refl}
 use Rattle.std.proofs.Common.{sym}
 use Rattle.std.proofs.Common.{ap, append_assoc}
 use Rattle.std.proofs.lemmas.Bool.{and_parts, and_from, cond-true}
@@ -10,7 +11,7 @@ use Rattle.ini_text.specs.Grammar.CharacterKinds.{backslash}
 use Rattle.ini_text.specs.Grammar.Positions.{last_or}
 use Rattle.ini_text.specs.Grammar.WhiteSpace.{end_trimmed}
 use Rattle.ini_text.specs.declared.option.LoneLine.{LoneLine}
-use Rattle.ini_text.specs.declared.option.LoneLine.TheVariants.{RunsOn, Refused}
+use Rattle.ini_text.specs.declared.option.LoneLine.TheVariants.{RunsOn, Refused, Key}
 use Rattle.ini_text.proofs.LawLemmas.PieceLemmas.{last_or-append}
 use Rattle.ini_edit.specs.Inside.KeyEdges.{BeginsWhite}
 use Rattle.ini_edit.specs.Renamed.{is_key_white}
@@ -47,6 +48,7 @@ pub record WhiteSoFar (line : LoneLine) (text white rest : List ℕ) : Type 0 wh
 no_backslash_white : (line : LoneLine) → is_key_white line backslash ≡ false
 no_backslash_white RunsOn = refl
 no_backslash_white Refused = refl
+no_backslash_white Key = refl
 
 pub so_far_none : (line : LoneLine) (text : List ℕ) → WhiteSoFar line text text text
 so_far_none line text = record {

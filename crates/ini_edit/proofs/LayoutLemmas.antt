@@ -2,22 +2,26 @@
 use Rattle.std.proofs.Common.{◌≡◌, ◌∙◌, ◌<◌, ◌≤◌, ◌+◌, ◌-◌, ◌&&◌, ℕ, zero, suc, Bool, true, false, cond}
 use Rattle.std.proofs.Common.{not, List, [], ◌∷◌, ◌++◌}
 use Rattle.std.proofs.Common.{ap, append-nil, append_assoc, arith, drop, eqb, eqb-true, get_or, length}
-use Rattle.std.proofs.Common.{nat_eq, refl, replicate, subst, sym}
-use Rattle.std.proofs.lemmas.Bool.{cond-false, cond-true}
+use Rattle.std.proofs.Common.{None, Option, Some, is_some, nat_eq, refl, replicate, subst, sym}
+use Rattle.std.proofs.lemmas.Bool.{cond-false, cond-true, false≢true}
 use Rattle.std.proofs.lemmas.List.{drop_all, drop_more}
 use Rattle.ini.specs.Texts.{Text}
-use Rattle.ini_text.specs.Grammar.CharacterKinds.{carriage_return, is_blank, is_line_feed}
+use Rattle.ini_text.specs.Grammar.CharacterKinds.{carriage_return, is_blank, is_line_feed, space}
 use Rattle.ini_text.specs.Grammar.Positions.{last_or}
-use Rattle.ini_text.specs.Inside.PlainTests.{begins}
+use Rattle.ini_text.specs.Grammar.CharacterKinds.{begins}
+use Rattle.ini_text.specs.Options.Backslashes.{begins_escape}
+use Rattle.ini_text.specs.Options.ReadOptions.{backslash_of}
 use Rattle.ini_text.specs.Parsing.Fronts.{IsRest, front_of}
+use Rattle.ini_text.specs.declared.option.ParseOption.{ParseOption}
 use Rattle.ini_edit.specs.Inside.SourceLayouts.{EndsInRest}
 use Rattle.ini_edit.specs.SourceLayout.{Rules, laid_gap, laid_pair, laid_pairs, laid_section, laid_sections}
 use Rattle.ini_edit.specs.SourceEditsSections.{rest_before_header}
 use Rattle.ini_edit.specs.SourceLayout.{above_next, column_after, column_at, first_lines, laid_lines}
-use Rattle.ini_edit.specs.SourceLayout.{line_ends, lines_of, one_more}
+use Rattle.ini_edit.specs.SourceLayout.{line_ends, lines_of, one_more, pad_for, style_of_key}
 use Rattle.ini_edit.specs.SourceLayout.{white_before}
 use Rattle.ini_edit.specs.SourceLines.{comments_at_end, indentation_at_end}
 use Rattle.ini_edit.specs.SourcePlaces.{gap_of, is_nil, last_gap}
+use Rattle.ini_edit.specs.SourceWritten.{Style}
 use Rattle.ini_edit.specs.Sources.{PairPiece, SectionPiece, pair_text, section_text}
 use Rattle.ini_edit.specs.declared.source.layout.lines.Follower.{Follower}
 use Rattle.ini_edit.specs.declared.source.layout.lines.Follower.TheVariants.{AsItIs, End, Header}

@@ -5,6 +5,7 @@ pub mod AheadLemmas
 pub mod BlankLineLemmas
 pub mod BlankValueLemmas
 pub mod CharsLemmas
+pub mod ClosedKeyLemmas
 pub mod ClosedLemmas
 pub mod ClosedPairLemmas
 pub mod ColumnLemmas
@@ -16,6 +17,7 @@ pub mod CommentPutLemmas
 pub mod CommentRowLemmas
 pub mod CommentSectionLemmas
 pub mod CommentedLineLemmas
+pub mod DeletedKeyLemmas
 pub mod DeletedLinesLemmas
 pub mod DeletedPairLemmas
 pub mod DeletedSourceLemmas
@@ -52,10 +54,12 @@ pub mod KeyValueLemmas
 pub mod LaidOutLemmas
 pub mod LastLineEndLemmas
 pub mod LayoutLemmas
+pub mod LineCutLemmas
 pub mod LineEndLemmas
 pub mod LineEndedLemmas
 pub mod LineFrontLemmas
 pub mod LinesGluedLemmas
+pub mod LoneSetLemmas
 pub mod MadePairLemmas
 pub mod MakerLemmas
 pub mod MarkLemmas
@@ -64,6 +68,7 @@ pub mod NewKeyLemmas
 pub mod NewPairLemmas
 pub mod NewSectionSpanLemmas
 pub mod NewStyleLemmas
+pub mod NextPairLemmas
 pub mod OwnBeforeLemmas
 pub mod OwnLineLemmas
 pub mod PadLemmas
@@ -75,10 +80,12 @@ pub mod PairMoreLemmas
 pub mod PairOutLemmas
 pub mod PairPutLemmas
 pub mod PairTailLemmas
+pub mod PairViewLemmas
 pub mod PlacedSpanLemmas
 pub mod PlainKeyLemmas
 pub mod PrevailingLemmas
 pub mod PutAfterLemmas
+pub mod PutAfterLoneLemmas
 pub mod PutAfterMoreLemmas
 pub mod PutBeforeLemmas
 pub mod PutBeforeSectionLemmas
@@ -145,4 +152,3 @@ pub mod WholeTextLemmas
 pub mod WholeTextRefusalLemmas
 pub mod WithoutLemmas
 pub mod WritableLemmas
-pub mod WrittenLemmas

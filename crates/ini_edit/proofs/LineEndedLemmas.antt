@@ -2,8 +2,7 @@
 -- they stand before all that may follow them.
 use Rattle.std.proofs.Common.{◌≡◌, ◌≢◌, ◌∙◌, ◌&&◌, ℕ, true, false, not, []}
 use Rattle.std.proofs.Common.{◌∷◌, ◌++◌, ap, append-nil, eqb-true, inl, inr, refl, sym}
-use Rattle.std.proofs.lemmas.Bool.{and_from, and_parts, both_ways, cases_Bool, cond-false, cond-true}
-use Rattle.std.proofs.lemmas.Bool.{false≢true}
+use Rattle.std.proofs.lemmas.Bool.{and_parts, both_ways, cases_Bool, cond-false, false≢true}
 use Rattle.std.specs.List.{list_all}
 use Rattle.ini_text.specs.Grammar.CharacterKinds.{is_line_feed, line_feed}
 use Rattle.ini_text.specs.Grammar.Places.{TrailingLines}
@@ -18,8 +17,10 @@ use Rattle.ini_edit.specs.SourceEditsDelete.{line_end_after, lines_after, own_li
 use Rattle.ini_edit.specs.SourceLines.{LinePlace, are_quiet, ends_in_line, is_empty, is_line, is_line_from}
 use Rattle.ini_edit.specs.SourceLines.{next_place, quiet_lines_at_end, quiet_lines_from}
 use Rattle.ini_edit.specs.SourceLines.{stays_quiet}
-use Rattle.ini_edit.specs.Sources.{PairPiece}
-use Rattle.ini_edit.proofs.QuietWalkLemmas.{feeds_left, feeds_right, passed_comment, passed_last, passed_line}
+use Rattle.ini_edit.specs.Sources.{PairPiece, is_multiline}
+use Rattle.ini_edit.proofs.PairEndLemmas.{lines_on, no_line_end_on, own_on}
+use Rattle.ini_edit.proofs.QuietWalkLemmas.{feeds_left, feeds_right, passed_comment, passed_last}
+use Rattle.ini_edit.proofs.QuietWalkLemmas.{passed_line}
 use Rattle.ini_edit.proofs.QuietWalkLemmas.{passed_last_comment, past_end}
 use Rattle.ini_edit.proofs.SourceLineLemmas.{front_of_none}
 use Rattle.ini_edit.proofs.TrailingCutLemmas.{line_end_moved}
@@ -62,6 +63,7 @@ feed_ends : (o : ParseOption) (p : LinePlace) (c : ℕ) → stays_quiet o p c �
 feed_ends o LinePlace.line c quiet feed = rw (eqb-true c line_feed feed) refl
 feed_ends o LinePlace.lead c quiet feed = rw (eqb-true c line_feed feed) refl
 feed_ends o LinePlace.within c quiet feed = rw (eqb-true c line_feed feed) refl
+feed_ends o LinePlace.space c quiet feed = absurd (false≢true quiet)
 feed_ends o LinePlace.escape c quiet feed = absurd (false≢true quiet)
 feed_ends o LinePlace.note c quiet feed = rw (eqb-true c line_feed feed) refl
 
@@ -86,7 +88,7 @@ lines_end o p c (d ∷ t) some feed = elim (cases_Bool (is_line p && are_quiet o
 ]
 
 -- a pair's lines are ended, as the word for it says
-pub lines_ended : (o : ParseOption) (p : PairPiece) → o.enabled_indented_mutiline_value ≡ true
+pub lines_ended : (o : ParseOption) (p : PairPiece) → is_multiline o p ≡ true
     → p.stretches.trailing_lines ≢ []
     → (not (is_empty (line_end_after o p) && is_empty (lines_after o p))
     && is_column_one p.stretches.trailing_lines) ≡ true
@@ -95,8 +97,7 @@ lines_ended o p on some ended =
     let t = p.stretches.trailing_lines in
     let parts = and_parts (not (is_empty (line_end_after o p) && is_empty (lines_after o p)))
     (is_column_one t) ended in
-    let lines : lines_after o p ≡ quiet_lines_at_end o t =
-    cond-true o.enabled_indented_mutiline_value _ _ on in
+    let lines : lines_after o p ≡ quiet_lines_at_end o t = lines_on o p on in
     elim (cases_Bool (is_empty (quiet_lines_at_end o t))) [
       | inl empty ↦ line_from lines empty parts.0
       | inr there ↦ at t some parts.1 (some_is (quiet_lines_at_end o t) there)
@@ -118,13 +119,11 @@ lines_ended o p on some ended =
       | inl is ↦
           let t = p.stretches.trailing_lines in
           let own : own_lines o p ≡ t =
-          cond-true o.enabled_indented_mutiline_value _ _ on
-          ∙ ap (front_of t) (lines ∙ empty_is (quiet_lines_at_end o t) empty) ∙ front_of_none t in
+          own_on o p on ∙ ap (front_of t) (empty_is (quiet_lines_at_end o t) empty) ∙ front_of_none t in
           ap (ends_in_line o) (sym own) ∙ is
       | inr apart ↦
           let none : line_end_after o p ≡ [] =
-          cond-true (o.enabled_indented_mutiline_value && not (ends_in_line o (own_lines o p))) _ _
-          (and_from o.enabled_indented_mutiline_value _ on (ap not apart)) in
+          no_line_end_on o p on (own_lines o p) refl apart in
           absurd (false≢true
           (sym (ap (λ l. not (is_empty l && is_empty (lines_after o p))) none
           ∙ ap (λ l. not (is_empty l)) lines ∙ ap not empty) ∙ some))

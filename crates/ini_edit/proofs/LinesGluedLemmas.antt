@@ -21,10 +21,10 @@ use Rattle.ini_text.proofs.PlainLemmas.PlainPairLemmas.{line_end-is}
 use Rattle.ini_edit.specs.Endings.{Ending, Closing, ending_from}
 use Rattle.ini_edit.specs.Places.{Follows}
 use Rattle.ini_edit.proofs.CommentedLineLemmas.{comment_begins, comment_longer}
-use Rattle.ini_edit.proofs.EndingLemmas.{ending-lead, ending-line, ending-white}
-use Rattle.ini_edit.proofs.EndedLemmas.{line_end-some-after}
+use Rattle.ini_edit.proofs.EndingLemmas.{ending-lead, ending-white}
 use Rattle.ini_edit.proofs.InsertedLemmas.{line_end-closes}
 use Rattle.ini_edit.proofs.GluedLemmas.{closing_after, closing_alone, closing_end, closing_line}
+use Rattle.ini_edit.proofs.GluedLemmas.{closing_past}
 use Rattle.ini_edit.proofs.GluedLemmas.{closing_within, feeds_after, goes_on_glued, lead_glued, line_glued}
 
 none_begins : (w z : List ℕ) → BeginsWith is_blank w → (w ++ z) ≢ []
@@ -291,9 +291,8 @@ module _ {o : ParseOption} (sep : LineSeparator) {x : List ℕ} (follows : Follo
     more_glued (MoreLines.empty_cr_lf m) k = return_feed_more (more_glued m k)
     more_glued (MoreLines.continued {w} {l} {e} {t} {r} {v = v} goes ln le m) k =
         let following : Closing o (ending_from o Ending.inside (e ++ t)) c =
-        subst (λ z. Closing o z c)
-        (ending-lead o Ending.line w (l ++ (e ++ t)) goes.begins goes.lead.white
-        ∙ ending-line (e ++ t) (line_end-some-after (t ++ r) (t ++ r) le) ln) k in
+        closing_past Ending.line (w ++ l) t le
+        (subst (λ z. Closing o (ending_from o Ending.line z) c) (sym (append_assoc w l (e ++ t))) k) in
         line_more goes ln (ended_glued t r v le m (closing_alone t le following)
         (more_glued m (closing_lines t (t ++ r) le following)))
     more_glued (MoreLines.last {w} {l} goes ln) k =
@@ -321,9 +320,8 @@ module _ {o : ParseOption} (sep : LineSeparator) {x : List ℕ} (follows : Follo
         (line_end-is sep x) done))
     lines_glued (Value.lines {w} {l} {e} {t} {r} {u} {v} _ lead ln le m) k =
         let following : Closing o (ending_from o Ending.inside (e ++ t)) c =
-        subst (λ z. Closing o z c)
-        (ending-white o w (l ++ (e ++ t)) lead.white
-        ∙ ending-line (e ++ t) (line_end-some-after (t ++ r) (t ++ r) le) ln) k in
+        closing_past Ending.inside (w ++ l) t le
+        (subst (λ z. Closing o (ending_from o Ending.inside z) c) (sym (append_assoc w l (e ++ t))) k) in
         let n = ended_glued t r v le m (closing_alone t le following)
         (more_glued m (closing_lines t (t ++ r) le following)) in
         let same : without_outer_line_feeds (u ++ n.value) ≡ without_outer_line_feeds (u ++ v) =

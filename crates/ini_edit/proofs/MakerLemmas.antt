@@ -7,7 +7,7 @@ use Rattle.ini_text.specs.Grammar.CharacterKinds.{is_line_end, is_line_feed}
 use Rattle.ini_text.specs.Grammar.Places.{TrailingLines, pair_source}
 use Rattle.ini_text.specs.Grammar.Positions.{last_or}
 use Rattle.ini_text.specs.Grammar.Values.{LineEnd}
-use Rattle.ini_text.specs.Laws.Plain.{IsPlainKey, IsReadBack}
+use Rattle.ini_text.specs.Laws.Plain.{IsPlainKey}
 use Rattle.ini_text.specs.declared.option.ParseOption.{ParseOption}
 use Rattle.ini_text.specs.declared.write.policy.EscapePolicy.{EscapePolicy}
 use Rattle.ini_text.proofs.LawLemmas.PieceLemmas.{last_or-append}
@@ -23,7 +23,8 @@ use Rattle.ini_edit.proofs.BlankLineLemmas.{AreBlank}
 use Rattle.ini_edit.proofs.CommentRowLemmas.{comments_column, comments_gap}
 use Rattle.ini_edit.proofs.DeletedPairLemmas.{tail_last}
 use Rattle.ini_edit.proofs.GapLemmas.{gap_join}
-use Rattle.ini_edit.proofs.NewPairLemmas.{IsPlainStyle, IsSourceFor, new_pair_follows, new_pair_is}
+use Rattle.ini_edit.proofs.NewPairLemmas.{IsPlainStyle, IsReadKey, IsSourceFor, new_pair_follows}
+use Rattle.ini_edit.proofs.NewPairLemmas.{new_pair_is}
 use Rattle.ini_edit.proofs.SourceAddLemmas.{IsNewEnd, line_ends_gap}
 use Rattle.ini_edit.proofs.SourceSetLemmas.{before_tail}
 
@@ -35,7 +36,7 @@ pub record MakesReadPairs (o : ParseOption) (make : Maker) : Type 0 where
 
 -- those of a plain key and style, and of a source that is read as the value, are such
 pub new_pairs_read : {o : ParseOption} {policy : EscapePolicy} {key value source : Text} {style : Style}
-    → IsPlainKey o policy key → IsReadBack o policy key → IsPlainStyle o style → IsSourceFor o source value
+    → IsPlainKey o policy key → IsReadKey o policy key → IsPlainStyle o style → IsSourceFor o source value
     → MakesReadPairs o (λ indented lines gap. new_pair o policy style indented key value source lines gap)
 new_pairs_read plain read_back is given = record {
   makes = record {

@@ -1,7 +1,8 @@
 -- The line end of a new pair after a multiline value: where the value's own lines end with CR alone, it is
 -- that, so that a comment behind them stays behind CR.
 use Rattle.std.proofs.Common.{◌≡◌, ◌≢◌, ◌∙◌, ◌==◌, ◌&&◌, ℕ, Bool, true, false, not, [], ◌∷◌, ◌++◌}
-use Rattle.std.proofs.Common.{ap, append-nil, arith, eqb-true, if◌then◌else◌, inl, inr, length, length-append, refl}
+use Rattle.std.proofs.Common.{ap, append-nil, arith, eqb-true, if◌then◌else◌, inl, inr, length}
+use Rattle.std.proofs.Common.{length-append, refl}
 use Rattle.std.proofs.Common.{subst, sym}
 use Rattle.std.proofs.lemmas.Bool.{and_cases, and_parts, both_ways, cases_Bool, cond-false, cond-true}
 use Rattle.std.proofs.lemmas.Bool.{false≢true, not-true, or_cases, or_left, or_parts}
@@ -12,7 +13,7 @@ use Rattle.ini_text.specs.Grammar.Keys.{begins_note}
 use Rattle.ini_text.specs.Grammar.Places.{TrailingLines}
 use Rattle.ini_text.specs.Grammar.Positions.{last_or}
 use Rattle.ini_text.specs.Grammar.Values.{LineEnd}
-use Rattle.ini_text.specs.Inside.PlainTests.{begins}
+use Rattle.ini_text.specs.Grammar.CharacterKinds.{begins}
 use Rattle.ini_text.specs.Options.WriteOptions.{line_end}
 use Rattle.ini_text.specs.declared.option.ParseOption.{ParseOption}
 use Rattle.ini_text.specs.declared.write.option.LineSeparator.{LineSeparator}
@@ -20,6 +21,7 @@ use Rattle.ini_text.specs.declared.write.option.LineSeparator.TheVariants.{Syste
 use Rattle.ini_text.proofs.LawLemmas.PieceLemmas.{last_or-append}
 use Rattle.ini.specs.Texts.{Text}
 use Rattle.ini_edit.specs.Places.{Follows}
+use Rattle.ini_edit.specs.SourceEditsAdd.{notes_behind_return}
 use Rattle.ini_edit.specs.SourceLines.{LinePlace, are_quiet, ends_in_line, ends_line, is_line}
 use Rattle.ini_edit.specs.SourceLines.{line_end_at_end, next_place, next_within, quiet_lines_at_end}
 use Rattle.ini_edit.specs.SourceLines.{quiet_lines_from}
@@ -45,6 +47,9 @@ next_line o LinePlace.lead c cs h =
     (if begins_note o c then LinePlace.note else next_within o c) refl
     (other_place (begins_note o c) LinePlace.note (next_within o c) refl (inside_apart o c))) h
 next_line o LinePlace.within c cs h = line_by (ends_line c cs) _ (inside_apart o c) h
+next_line o LinePlace.space c cs h =
+    line_by (ends_line c cs) _ (other_place (o.enabled_inline_comment && is_comment_mark c) LinePlace.note
+    (next_within o c) refl (inside_apart o c)) h
 next_line o LinePlace.escape c cs h = absurd (false≢true h)
 next_line o LinePlace.note c cs h =
     line_by (ends_line c cs) _ (other_place (is_line_end c) LinePlace.within LinePlace.note refl refl) h
@@ -140,7 +145,7 @@ pub record IsEndMore (o : ParseOption) (t r e : Text) : Type 0 where
 
 abbrev pub more_end : (o : ParseOption) → (end t : Text) → Text
 more_end o end t =
-    if o.enabled_indented_comment && last_or line_feed (end_of o (own_of o t)) == carriage_return
+    if notes_behind_return o && last_or line_feed (end_of o (own_of o t)) == carriage_return
     then carriage_return ∷ [] else end
 
 some_before : (own q r : Text) (c : ℕ) → is_line_feed (last_or (last_or c own) q) ≡ is_line_feed
@@ -150,7 +155,7 @@ some_before own q r c = sym (ap is_line_feed (last_or-append c own q))
 -- it is LF, or CR LF, or CR alone after a line that ends so
 module _ {o : ParseOption} (on : o.enabled_indented_mutiline_value ≡ true) {t r : Text}
     (trailing : TrailingLines o t r) (follows : Follows o r) {d : ℕ} {ds : Text} (end : IsNewEnd d ds)
-    (off_column : o.enabled_indented_comment ≡ false → BeginsWith is_comment_mark r → (c : ℕ)
+    (off_column : notes_behind_return o ≡ false → BeginsWith is_comment_mark r → (c : ℕ)
     → is_line_feed (last_or c t) ≡ true) where
   abbrev q : Text
   q = quiet_lines_at_end o t
@@ -201,7 +206,8 @@ module _ {o : ParseOption} (on : o.enabled_indented_mutiline_value ≡ true) {t 
       ]
 
       at : (x : Text) → q ≡ x → BeginsWithNo is_line_feed (q ++ r)
-      at [] none = subst (λ x. BeginsWithNo is_line_feed (x ++ r)) (sym none) (no_feed r (follows.no_line_end on))
+      at [] none = subst (λ x. BeginsWithNo is_line_feed (x ++ r)) (sym none)
+          (no_feed r (follows.no_line_end on))
         where
           no_feed : (r : Text) → BeginsWithNo is_line_end r → BeginsWithNo is_line_feed r
           no_feed [] h = tt
@@ -222,7 +228,7 @@ module _ {o : ParseOption} (on : o.enabled_indented_mutiline_value ≡ true) {t 
       column (y ∷ x) is_some c d =
           quiet_last (carriage_return ∷ []) (λ none. let no : y ∷ x ≡ [] = sym is_some ∙ none in cc) c d
 
-  given_end : (o.enabled_indented_comment && last_or line_feed (end_of o own) == carriage_return) ≡ false
+  given_end : (notes_behind_return o && last_or line_feed (end_of o own) == carriage_return) ≡ false
       → IsEndMore o t r (d ∷ ds)
   given_end other = record {
     is_end = end.is_end _;
@@ -232,7 +238,7 @@ module _ {o : ParseOption} (on : o.enabled_indented_mutiline_value ≡ true) {t 
   }
     where
       feed : BeginsWith is_comment_mark r → q ≡ [] → (e : ℕ) → is_line_feed (last_or e t) ≡ true
-      feed mark none e = elim (and_cases o.enabled_indented_comment _ other) [
+      feed mark none e = elim (and_cases (notes_behind_return o) _ other) [
         | inl off ↦ off_column off mark e
         | inr apart ↦
             let ends = trailing_end on trailing mark in
@@ -256,17 +262,17 @@ module _ {o : ParseOption} (on : o.enabled_indented_mutiline_value ≡ true) {t 
 
   pub end_more : IsEndMore o t r (more_end o (d ∷ ds) t)
   end_more =
-      elim (cases_Bool (o.enabled_indented_comment && last_or line_feed (end_of o own) == carriage_return)) [
+      elim (cases_Bool (notes_behind_return o && last_or line_feed (end_of o own) == carriage_return)) [
         | inl h ↦
             subst (IsEndMore o t r) (sym (cond-true _ _ _ h))
-            (cr_end (eqb-true _ carriage_return (and_parts o.enabled_indented_comment _ h).1))
+            (cr_end (eqb-true _ carriage_return (and_parts (notes_behind_return o) _ h).1))
         | inr h ↦ subst (IsEndMore o t r) (sym (cond-false _ _ _ h)) (given_end h)
       ]
 
 -- the same of a line end as it is written
 pub written_more : {o : ParseOption} (on : o.enabled_indented_mutiline_value ≡ true) {t r : Text}
     (trailing : TrailingLines o t r) (follows : Follows o r) (sep : LineSeparator)
-    (off_column : o.enabled_indented_comment ≡ false → BeginsWith is_comment_mark r → (c : ℕ)
+    (off_column : notes_behind_return o ≡ false → BeginsWith is_comment_mark r → (c : ℕ)
     → is_line_feed (last_or c t) ≡ true)
     → IsEndMore o t r (more_end o (line_end sep) t)
 written_more on trailing follows SystemDefault off = end_more on trailing follows feed_end off

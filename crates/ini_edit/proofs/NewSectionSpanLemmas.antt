@@ -4,14 +4,13 @@ use Rattle.std.proofs.Common.{append-nil, inl, inr, refl, subst, sym}
 use Rattle.std.proofs.lemmas.Bool.{cases_Bool, cond-false, cond-true, or_left}
 use Rattle.ini_text.specs.Grammar.CharacterKinds.{BeginsWithNo, is_blank, is_line_end}
 use Rattle.ini_text.specs.Grammar.CharacterKinds.{line_feed}
-use Rattle.ini_text.specs.Grammar.Places.{Stretches, TrailingLines, pair_source, value_source}
+use Rattle.ini_text.specs.Grammar.Places.{TrailingLines, pair_source, separator_text}
 use Rattle.ini_text.specs.Grammar.Positions.{last_or}
 use Rattle.ini_text.specs.Grammar.Strings.{Closes, bracketed_name_ends}
 use Rattle.ini_text.specs.Grammar.Values.{LineEnd, MoreLines}
 use Rattle.ini_text.specs.Laws.Plain.{IsPlainName}
 use Rattle.ini_text.specs.declared.option.ParseOption.{ParseOption}
 use Rattle.ini_text.specs.declared.write.policy.EscapePolicy.{EscapePolicy}
-use Rattle.ini_text.proofs.LawLemmas.PieceLemmas.{last_or-append}
 use Rattle.ini_text.proofs.PlainLemmas.PlainLineLemmas.{header_element}
 use Rattle.ini.specs.Texts.{Text}
 use Rattle.ini_edit.specs.Inside.InPlace.{AreInPlace}
@@ -25,6 +24,7 @@ use Rattle.ini_edit.proofs.GapLemmas.{gap_join, gap_like}
 use Rattle.ini_edit.proofs.SectionPlaceLemmas.{IsCutFor}
 use Rattle.ini_edit.proofs.HeaderLemmas.{bracketed}
 use Rattle.ini_edit.proofs.SectionTakenLemmas.{IsFeed, feed_last}
+use Rattle.ini_edit.proofs.SourcePartLemmas.{source_last}
 
 -- what follows a place, after LF
 pub rest_after_feed : {o : ParseOption} {has : Bool} {b : ℕ} {a g : Text} → IsCutFor o has b a g
@@ -46,18 +46,6 @@ feed_trailing g on IsFeed.lf blank end =
     TrailingLines.lines {t = []} on LineEnd.lf (MoreLines.done blank end) refl
 feed_trailing g on IsFeed.cr_lf blank end =
     TrailingLines.lines {t = []} on LineEnd.cr_lf (MoreLines.done blank end) refl
-
-pub source_last : (p : Stretches) (c : ℕ)
-    → last_or c (pair_source p)
-    ≡ last_or (last_or (last_or (last_or p.separator p.space_before) p.raw_value) p.space_after)
-    p.trailing_lines
-source_last p c =
-    let d = last_or p.separator p.space_before in
-    let e = last_or d p.raw_value in
-    last_or-append c p.key (p.separator ∷ value_source p)
-    ∙ last_or-append p.separator p.space_before (p.raw_value ++ (p.space_after ++ p.trailing_lines))
-    ∙ last_or-append d p.raw_value (p.space_after ++ p.trailing_lines)
-    ∙ last_or-append e p.space_after p.trailing_lines
 
 module _ {o : ParseOption} (policy : EscapePolicy) (name : Text) (plain : IsPlainName o policy name)
     {l : Text} (feed : IsFeed l) where
@@ -117,10 +105,11 @@ module _ {o : ParseOption} (policy : EscapePolicy) (name : Text) (plain : IsPlai
         subst (λ t. TrailingLines o t p.after) (sym lines)
         (subst (TrailingLines o l) (sym after)
         (feed_trailing g on feed (cut.no_blank refl on) cut.no_end)) in
-        let e = last_or (last_or (last_or p.stretches.separator p.stretches.space_before)
-        p.stretches.raw_value) p.stretches.space_after in
+        let key = p.stretches.key ++ separator_text p.stretches.separator in
+        let e = last_or (last_or (last_or (last_or (last_or line_feed key) p.stretches.space_before)
+        p.stretches.raw_value) p.stretches.space_after) p.stretches.note in
         let last : last_or line_feed (pair_source p.stretches) ≡ line_feed =
-        source_last p.stretches line_feed ∙ ap (last_or e) lines ∙ feed_last e feed in
+        sym (source_last line_feed p.stretches) ∙ ap (last_or e) lines ∙ feed_last e feed in
         section_with c p (makes.pair true l g refl trailing)
         (subst (λ d. IsGap o d p.after []) (sym last)
         (subst (λ t. IsGap o line_feed t []) (sym after) (rest_after_feed cut)))

@@ -1,7 +1,7 @@
 -- The style of a new pair: which pair's it is, and that it is blanks and a separator; and a source in the
 -- first form that is read back.
-use Rattle.std.proofs.Common.{◌≡◌, ◌∙◌, ◌≤◌, ◌<◌, ◌-◌, ℕ, Bool, true, false, List, [], ◌∷◌, ◌++◌, None}
-use Rattle.std.proofs.Common.{Option, Some, ap, append-nil, append_assoc, arith, chars, get_or}
+use Rattle.std.proofs.Common.{◌≡◌, ◌∙◌, ◌≤◌, ◌<◌, ◌-◌, ◌&&◌, ℕ, Bool, true, false, List, [], ◌∷◌, ◌++◌}
+use Rattle.std.proofs.Common.{None, Option, Some, ap, append-nil, append_assoc, arith, chars, get_or}
 use Rattle.std.proofs.Common.{if◌then◌else◌, length, min, refl, sym, take}
 use Rattle.std.proofs.lemmas.Bool.{and_from, and_parts, cond_both, cond-false, cond-true}
 use Rattle.std.proofs.lemmas.List.{drop_all, take_all, take_min}
@@ -11,6 +11,7 @@ use Rattle.std.specs.Option.{option_map, option_or, unwrap_or}
 use Rattle.std.specs.Prelude.{⊤}
 use Rattle.ini_text.specs.Grammar.CharacterKinds.{equals, is_blank, is_line_end, is_separator}
 use Rattle.ini_text.specs.Grammar.CharacterKinds.{line_feed}
+use Rattle.ini_text.specs.Grammar.Places.{Stretches}
 use Rattle.ini_text.specs.Grammar.Positions.{last_or, starts_line}
 use Rattle.ini_text.specs.Laws.Plain.{IsPlainSeparator}
 use Rattle.ini_text.specs.Parsing.Fronts.{front_of}
@@ -22,24 +23,23 @@ use Rattle.ini.specs.Texts.{Text}
 use Rattle.ini_edit.specs.Inside.InPlace.{AreInPlace}
 use Rattle.ini_edit.specs.Inside.SourceEnds.{IsPlaceAt, last_before, style_at, style_before, style_in}
 use Rattle.ini_edit.specs.Inside.SourceEnds.{style_in_first}
-use Rattle.ini_edit.specs.Inside.Spans.{AreSections, AreSpans, IsSpan, Span, pairs_spans, sections_spans}
+use Rattle.ini_edit.specs.Inside.Spans.{AreSections, AreSpans, IsPair, IsSpan, Span, pairs_spans}
+use Rattle.ini_edit.specs.Inside.Spans.{sections_spans}
 use Rattle.ini_edit.specs.Inside.Spans.{span_source}
 use Rattle.ini_edit.specs.SourceLines.{after_blanks, blanks_at_end}
 use Rattle.ini_edit.specs.SourcePlaces.{Place, up_to_pairs}
 use Rattle.ini_edit.specs.SourceWritten.{IsFirstReadAs, IsReadAs, Style, first_or, last_that_begins}
 use Rattle.ini_edit.specs.SourceWritten.{last_that_begins_in, new_style, option_style, rest_of, style_like}
 use Rattle.ini_edit.specs.SourceWritten.{style_or}
-use Rattle.ini_edit.specs.Sources.{PairPiece, SectionPiece, pair_text, section_text}
+use Rattle.ini_edit.specs.Sources.{PairPiece, SectionPiece, has_separator, pair_text, section_text}
 use Rattle.ini_edit.specs.Sources.{sections_text}
 use Rattle.ini_edit.proofs.FirstLemmas.{rest_here}
 use Rattle.ini_edit.proofs.InPlaceLemmas.{in_place-split}
 use Rattle.ini_edit.proofs.NewPairLemmas.{IsPlainStyle, IsSourceFor}
-use Rattle.ini_edit.proofs.OwnBeforeLemmas.{own_padded}
-use Rattle.ini_edit.proofs.ReadAsLemmas.{read_source, source_starts, value_read}
+use Rattle.ini_edit.proofs.ReadAsLemmas.{bare_tail, feed, lines_read, source_starts, value_read}
 use Rattle.ini_edit.proofs.SourcePartLemmas.{before_index}
 use Rattle.ini_edit.proofs.SourcePlaceLemmas.{index_place, place_drop, place_take}
 use Rattle.ini_edit.proofs.StyleLemmas.{separator_no_blank}
-use Rattle.ini_edit.proofs.ValueLemmas.{tail_closes}
 
 -- a source that is read back
 first_read : {o : ParseOption} {value source : Text} {forms : List Text}
@@ -53,8 +53,8 @@ pub source_for : {o : ParseOption} {value source : Text} {forms : List Text}
 source_for first =
     let h = first_read first in
     record {
-      gives = λ w t r white tail. value_read h w t r [] white refl tail;
-      own = λ t r tail. own_padded [] (t ++ r) refl (tail_closes tail) (read_source h);
+      gives = λ w t r white tail. value_read h w white (bare_tail feed [] refl tail) (λ none. refl);
+      own = λ t r tail. lines_read h (bare_tail feed [] refl tail);
       starts = source_starts h;
     }
 
@@ -80,9 +80,9 @@ blanks_before : (t : Text) → list_all is_blank (front_of t (after_blanks t)) �
 blanks_before t =
     let f = blank_front t in ap (list_all is_blank) (front_is f.0 (after_blanks t) t f.1) ∙ f.2
 
--- the separator of a pair
+-- the separator of a pair; a key alone is written with another
 abbrev separates : PairPiece → Bool
-separates p = is_separator p.stretches.separator
+separates p = is_separator (unwrap_or p.stretches.separator equals)
 
 abbrev SeparatesOr : Option PairPiece → Type 0
 SeparatesOr None = ⊤
@@ -139,7 +139,7 @@ last_separates front [] h = tt
 last_separates front (p ∷ ps) h =
     let parts = and_parts (separates p) (list_all separates ps) h in
     either (last_that_begins (front ++ pair_text p) ps) _ (last_separates (front ++ pair_text p) ps parts.1)
-    (one_of (starts_line front) p parts.0)
+    (one_of (starts_line front && has_separator p) p parts.0)
 
 abbrev all_separate : SectionPiece → Bool
 all_separate s = list_all separates s.pairs
@@ -153,11 +153,17 @@ last_in_separates front (s ∷ ss) h =
     either (last_that_begins_in more ss) _ (last_in_separates more ss parts.1)
     (last_separates (front ++ (s.header ++ s.after)) s.pairs parts.0)
 
+pair_separates : {o : ParseOption} {c : ℕ} {p : Stretches} {key value r : Text}
+    → IsPair o c p key value r → is_separator (unwrap_or p.separator equals) ≡ true
+pair_separates (IsPair.has_value is) =
+    ap (λ m. is_separator (unwrap_or m equals)) is.separator_is ∙ is.separates
+pair_separates (IsPair.is_lone is) = ap (λ m. is_separator (unwrap_or m equals)) is.lone.no_separator
+
 pairs_separate : {o : ParseOption} {c : ℕ} {r : Text} (ps : List PairPiece) (rest : List Span)
     → AreSpans o c (pairs_spans ps ++ rest) r → list_all separates ps ≡ true
 pairs_separate [] rest h = refl
 pairs_separate (p ∷ ps) rest (AreInPlace.more (IsSpan.is_pair is) (AreInPlace.more _ later)) =
-    and_from (separates p) _ is.separates (pairs_separate ps rest later)
+    and_from (separates p) _ (pair_separates is) (pairs_separate ps rest later)
 
 sections_separate : {o : ParseOption} {c : ℕ} {r : Text} (ss : List SectionPiece)
     → AreSpans o c (sections_spans ss) r → list_all all_separate ss ≡ true
@@ -202,12 +208,12 @@ begins_alike : (f g : Text) (ps : List PairPiece) → last_or line_feed f ≡ la
     → last_that_begins f ps ≡ last_that_begins g ps
 begins_alike f g [] same = refl
 begins_alike f g (p ∷ ps) same =
-    ap (λ l. option_or l (if starts_line f then Some p else None))
+    ap (λ l. option_or l (if starts_line f && has_separator p then Some p else None))
     (begins_alike (f ++ pair_text p) (g ++ pair_text p) ps
     (last_or-append line_feed f (pair_text p) ∙ ap (λ c. last_or c (pair_text p)) same
     ∙ sym (last_or-append line_feed g (pair_text p))))
-    ∙ ap (λ c. option_or (last_that_begins (g ++ pair_text p) ps) (if is_line_end c then Some p else
-    None)) same
+    ∙ ap (λ c. option_or (last_that_begins (g ++ pair_text p) ps)
+    (if is_line_end c && has_separator p then Some p else None)) same
 
 mapped_or : (o : ParseOption) (style : Style) (a b : Option PairPiece)
     → unwrap_or (option_or (option_map (style_like o) a) (option_map (style_like o) b)) style

@@ -1,5 +1,5 @@
 -- A new pair added to a section that is there: the sections stand, and the document has it.
-use Rattle.std.proofs.Common.{◌≡◌, ◌∙◌, ℕ, Bool, not, List, [], ◌∷◌, ◌++◌, None, Option, Some, ap, append-nil}
+use Rattle.std.proofs.Common.{◌≡◌, ◌∙◌, ℕ, Bool, List, [], ◌∷◌, ◌++◌, None, Option, Some, ap, append-nil}
 use Rattle.std.proofs.Common.{append_assoc, map, refl, subst, sym}
 use Rattle.std.proofs.lemmas.Bool.{cond_both}
 use Rattle.std.proofs.lemmas.List.{map-append}
@@ -14,19 +14,21 @@ use Rattle.ini.specs.Edits.{add_in}
 use Rattle.ini.specs.Texts.{Text, is_name}
 use Rattle.ini_edit.specs.Inside.SourceEnds.{IsPlaceAt}
 use Rattle.ini_edit.specs.Inside.Spans.{AreSections}
-use Rattle.ini_edit.specs.SourceEditsAdd.{GapPlace, end_after, first_place, pair_put_after}
+use Rattle.ini_edit.specs.SourceEditsAdd.{GapPlace, closed, first_place, made_after, pair_put_after}
 use Rattle.ini_edit.specs.SourceEditsAdd.{pair_put_first}
 use Rattle.ini_edit.specs.SourceEditsAdd.{pair_put_last, with_line_ended}
-use Rattle.ini_edit.specs.SourceEditsDelete.{gap_after, lines_after}
+use Rattle.ini_edit.specs.SourceEditsDelete.{would_be_taken}
 use Rattle.ini_edit.specs.SourceEditsAdded.{made, style_after}
 use Rattle.ini_edit.specs.SourcePlaces.{Place, exchanged, is_nil, last_place}
 use Rattle.ini_edit.specs.SourcePlaces.{section_place}
 use Rattle.ini_edit.specs.SourceWritten.{IsFirstReadAs, IsWritableNew, value_forms}
-use Rattle.ini_edit.specs.Sources.{PairPiece, SectionPiece, given_pair, given_section}
+use Rattle.ini_edit.specs.Sources.{PairPiece, SectionPiece, given_pair, given_section, is_multiline}
+use Rattle.ini_edit.proofs.ClosedPairLemmas.{closed_same}
 use Rattle.ini_edit.proofs.DeletedSourceLemmas.{nth_is}
 use Rattle.ini_edit.proofs.InsertedPairLemmas.{last_at}
 use Rattle.ini_edit.proofs.SetDocumentLemmas.{edit_at}
 use Rattle.ini_edit.proofs.MakerLemmas.{MakesReadPairs, new_pairs_read}
+use Rattle.ini_edit.proofs.NewPairLemmas.{read_key}
 use Rattle.ini_edit.proofs.NewStyleLemmas.{new_style_plain, source_for}
 use Rattle.ini_edit.proofs.PairPutLemmas.{put_after_any}
 use Rattle.ini_edit.proofs.SourceAddLemmas.{feed_end, return_end}
@@ -39,8 +41,10 @@ last_after x (y ∷ ys) = last_after y ys
 ended_gives : (o : ParseOption) (end : Text) (p : PairPiece)
     → given_pair (with_line_ended o end p) ≡ given_pair p
 ended_gives o end p =
-    cond_both o.enabled_indented_mutiline_value _ _ (λ q. given_pair q ≡ given_pair p) (λ _. refl) (λ
-    _. refl)
+    cond_both (is_multiline o p) _ _ (λ q. given_pair q ≡ given_pair p) (λ _. same) (λ _. same)
+  where
+    same : given_pair (closed o p) ≡ given_pair p
+    same = ap (λ k. (k, (closed o p).value)) (closed_same o p).0 ∙ ap (λ v. (p.key, v)) (closed_same o p).1
 
 module _ (o : ParseOption) (w : WriteOption) (ss : List SectionPiece) {key value source : Text}
     (writable : IsWritableNew o w key value)
@@ -56,7 +60,7 @@ module _ (o : ParseOption) (w : WriteOption) (ss : List SectionPiece) {key value
   stands_first sep new none put are = by sep put
     where
       makes : MakesReadPairs o maker_there
-      makes = new_pairs_read writable.plain_key writable.key_read_back
+      makes = new_pairs_read writable.plain_key (read_key writable)
           (new_style_plain o w s.here.pairs [] writable.plain_separator at (sym (append-nil
           s.here.pairs)) are)
           (source_for first)
@@ -79,7 +83,7 @@ module _ (o : ParseOption) (w : WriteOption) (ss : List SectionPiece) {key value
       subst (λ l. AreSections o (exchanged s l))
       (let same : pair_put_after o (line_end sep) maker_there s.here (last_place p ps) ≡ new = cc in
       ap (λ t. t ∷ []) same)
-      (put_after_any o sep writable.plain_key writable.key_read_back
+      (put_after_any o sep writable.plain_key (read_key writable)
       (new_style_plain o w s.here.pairs [] writable.plain_separator at (sym (append-nil s.here.pairs)) are)
       (source_for first) at (last_place p ps) whole are)
 
@@ -101,13 +105,16 @@ module _ (o : ParseOption) (w : WriteOption) (ss : List SectionPiece) {key value
       let l = last_place p ps in
       let same : pair_put_after o end maker_there s.here l ≡ new = cc in
       let ended = with_line_ended o end l.here in
-      let added = maker_there (not o.enabled_indented_mutiline_value) (end_after o end l.here ++ lines_after o l.here)
-      (gap_after o l.here) in
+      let added = made_after o end maker_there l.here l.after in
+      let gives : given_pair added ≡ (key, value) =
+      cond_both (would_be_taken o l.here l.after) _ _ (λ q. given_pair q ≡ (key, value)) (λ _. refl)
+      (λ _. refl) in
       let whole : s.here.pairs ≡ l.before ++ l.here ∷ [] =
       is ∙ (last_at p ps).whole ∙ ap (λ z. l.before ++ l.here ∷ z) (last_after p ps) in
       let given : map given_pair (l.before ++ (ended ∷ added ∷ l.after))
       ≡ map given_pair s.here.pairs ++ (key, value) ∷ [] =
       map-append given_pair l.before (ended ∷ added ∷ l.after)
+      ∙ ap (λ z. map given_pair l.before ++ (given_pair ended ∷ z ∷ map given_pair l.after)) gives
       ∙ ap (λ z. map given_pair l.before ++ (z ∷ (key, value) ∷ map given_pair l.after)) (ended_gives o
       end l.here)
       ∙ ap (λ z. map given_pair l.before ++ (given_pair l.here ∷ (key, value) ∷ map given_pair z))

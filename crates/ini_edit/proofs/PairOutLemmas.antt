@@ -1,17 +1,18 @@
 -- A pair of a section made comments: the sections are those of a text, as before.
 use Rattle.std.proofs.Common.{◌≡◌, ◌∙◌, ◌==◌, ◌&&◌, ◌||◌, ℕ, Bool, true, false, not, List, [], ◌∷◌, ◌++◌}
-use Rattle.std.proofs.Common.{None, Option, Some, ap, append_assoc, append-nil, eqb-true, if◌then◌else◌, refl}
+use Rattle.std.proofs.Common.{None, Option, Some, ap, append_assoc, append-nil, eqb-true, if◌then◌else◌}
+use Rattle.std.proofs.Common.{refl}
 use Rattle.std.proofs.Common.{subst, sym}
 use Rattle.std.proofs.lemmas.Bool.{and_parts, false≢true, not-false}
 use Rattle.std.specs.List.{list_all}
 use Rattle.std.specs.Prelude.{is_some}
-use Rattle.ini_text.specs.Grammar.CharacterKinds.{BeginsWith, BeginsWithNo, carriage_return, is_line_end}
+use Rattle.ini_text.specs.Grammar.CharacterKinds.{BeginsWith, BeginsWithNo, carriage_return, is_comment_mark}
+use Rattle.ini_text.specs.Grammar.CharacterKinds.{is_line_end}
 use Rattle.ini_text.specs.Grammar.CharacterKinds.{is_line_feed, line_feed, open_bracket, semicolon, space}
-use Rattle.ini_text.specs.Grammar.Places.{Stretches, pair_source, value_source}
+use Rattle.ini_text.specs.Grammar.Places.{Stretches, after_key_source, pair_source}
 use Rattle.ini_text.specs.Grammar.Positions.{last_or}
 use Rattle.ini_text.specs.Laws.PieceLaws.{Agree}
 use Rattle.ini_text.specs.declared.option.ParseOption.{ParseOption}
-use Rattle.ini_text.proofs.LawLemmas.OneAheadLemmas.{Alike, KeyFront-alike}
 use Rattle.ini_text.proofs.LawLemmas.PieceLemmas.{last_or-append}
 use Rattle.ini.specs.Texts.{Text, is_text}
 use Rattle.ini_edit.specs.Inside.InPlace.{AreInPlace}
@@ -24,15 +25,15 @@ use Rattle.ini_edit.specs.SourceEditsDelete.{gap_after, line_end_after, lines_af
 use Rattle.ini_edit.specs.SourceLines.{is_empty}
 use Rattle.ini_edit.specs.SourcePlaces.{Place, exchanged, gap_of, gap_put, last_before_pair}
 use Rattle.ini_edit.specs.SourcePlaces.{last_before_section, with_end}
-use Rattle.ini_edit.specs.Sources.{PairPiece, SectionPiece, joined}
-use Rattle.ini_edit.proofs.AheadLemmas.{key_follows}
+use Rattle.ini_edit.specs.Sources.{PairPiece, SectionPiece, is_multiline, joined}
 use Rattle.ini_edit.proofs.CommentLineLemmas.{mark_may_follow}
 use Rattle.ini_edit.proofs.CommentOutLemmas.{IsOut, comment_of, commented_is, pair_commented}
-use Rattle.ini_edit.proofs.CommentPutLemmas.{no_end_begins, pair_then}
+use Rattle.ini_edit.proofs.CommentPutLemmas.{no_end_begins, pair_follows, pair_then, pair_unmarked}
 use Rattle.ini_edit.proofs.CommentSectionLemmas.{Ended, ended}
 use Rattle.ini_edit.proofs.GapLemmas.{gaps_joined}
 use Rattle.ini_edit.proofs.InPlaceLemmas.{in_place-put, in_place-split, joined-append}
 use Rattle.ini_edit.proofs.HeaderLemmas.{header_bracket}
+use Rattle.ini_edit.proofs.PairViewLemmas.{key_front_of}
 use Rattle.ini_edit.proofs.QuietLemmas.{as_header}
 use Rattle.ini_edit.proofs.SourcePlaceLemmas.{gap_of-end, gap_put-end, rest_put-end}
 use Rattle.ini_edit.proofs.SourceSpanLemmas.{gap_put_in, last_after_gap, last_of_gap, spans_after_pairs}
@@ -69,11 +70,11 @@ module _ (o : ParseOption) (xs zs : List Span) (a b : Text) (p : Stretches) (key
       at whole before (AreInPlace.more (IsSpan.is_pair is) later) made =
           let new = ((semicolon ∷ C) ++ []) ++ (following ++ []) in
           let text : (pair_source p ++ (b ++ following)) ++ []
-          ≡ p.key ++ p.separator ∷ (value_source p ++ ((b ++ following) ++ [])) =
+          ≡ p.key ++ (after_key_source p ++ ((b ++ following) ++ [])) =
           append_assoc (pair_source p) (b ++ following) [] ∙ pair_then p ((b ++ following) ++ []) in
           let ahead : AreSpans o line_feed front new =
           spans_ahead (mark_may_follow semicolon ((C ++ []) ++ (following ++ [])) refl) front
-          (KeyFront-alike Alike.same is.key_front) (subst (AreSpans o line_feed front) text before) in
+          (key_front_of is) (subst (AreSpans o line_feed front) text before) in
           let ends : Agree o (last_or last (pair_source p ++ (b ++ [])) ∷ [])
           (last_or last ((semicolon ∷ C) ++ []) ∷ []) following =
           subst (λ z. Agree o (z ∷ []) (last_or last ((semicolon ∷ C) ++ []) ∷ []) following)
@@ -87,39 +88,41 @@ module _ (o : ParseOption) (xs zs : List Span) (a b : Text) (p : Stretches) (key
           (gap (semicolon ∷ C) ∷ []) zs whole ahead
           (AreInPlace.more (IsSpan.is_gap made.is) AreInPlace.none) ends))
 
--- no line end begins what follows a pair's gap
-bracket_begins : (s x : Text) → BeginsWith (λ c. c == open_bracket) s → BeginsWithNo is_line_end (s ++ x)
-bracket_begins [] x h = absurd (false≢true (sym h))
-bracket_begins (c ∷ s) x h = subst (λ d. is_line_end d ≡ false) (sym (eqb-true c open_bracket h)) refl
+-- what begins neither a header nor a key doesn't begin what follows a pair's gap
+bracket_begins : (test : ℕ → Bool) → test open_bracket ≡ false → (s x : Text)
+    → BeginsWith (λ c. c == open_bracket) s → BeginsWithNo test (s ++ x)
+bracket_begins test apart [] x h = absurd (false≢true (sym h))
+bracket_begins test apart (c ∷ s) x h = subst (λ d. test d ≡ false) (sym (eqb-true c open_bracket h)) apart
 
-opening_begins : {o : ParseOption} {c : ℕ} {r : Text} (name : Option Text) (s x : Text) → is_some name ≡ true
-    → IsSpan o c (opening name s) r → BeginsWithNo is_line_end (s ++ x)
-opening_begins None s x named is = absurd (false≢true named)
-opening_begins (Some name) s x named (IsSpan.header e) = bracket_begins s x (header_bracket (as_header e))
+module _ {o : ParseOption} (test : ℕ → Bool) (apart : test open_bracket ≡ false) where
+  opening_begins : {c : ℕ} {r : Text} (name : Option Text) (s x : Text) → is_some name ≡ true
+      → IsSpan o c (opening name s) r → BeginsWithNo test (s ++ x)
+  opening_begins None s x named is = absurd (false≢true named)
+  opening_begins (Some name) s x named (IsSpan.header e) =
+      bracket_begins test apart s x (header_bracket (as_header e))
 
-sections_begin : {o : ParseOption} {c : ℕ} (ss : List SectionPiece)
-    → list_all (λ t. is_some t.name) ss ≡ true → AreSpans o c (sections_spans ss) []
-    → BeginsWithNo is_line_end (joined span_source (sections_spans ss) ++ [])
-sections_begin [] named h = tt
-sections_begin (t ∷ ss) named (AreInPlace.more is later) =
-    let rest = t.after ++ joined span_source (pairs_spans t.pairs ++ sections_spans ss) in
-    subst (BeginsWithNo is_line_end) (sym (append_assoc t.header rest []))
-    (opening_begins t.name t.header (rest ++ [])
-    (and_parts (is_some t.name) (list_all (λ t. is_some t.name) ss) named).0 is)
+  sections_begin : {c : ℕ} (ss : List SectionPiece)
+      → list_all (λ t. is_some t.name) ss ≡ true → AreSpans o c (sections_spans ss) []
+      → BeginsWithNo test (joined span_source (sections_spans ss) ++ [])
+  sections_begin [] named h = tt
+  sections_begin (t ∷ ss) named (AreInPlace.more is later) =
+      let rest = t.after ++ joined span_source (pairs_spans t.pairs ++ sections_spans ss) in
+      subst (BeginsWithNo test) (sym (append_assoc t.header rest []))
+      (opening_begins t.name t.header (rest ++ [])
+      (and_parts (is_some t.name) (list_all (λ t. is_some t.name) ss) named).0 is)
 
-rest_begins : {o : ParseOption} {c : ℕ} (s : Place SectionPiece) (after : List PairPiece)
-    → list_all (λ t. is_some t.name) s.after ≡ true → AreSpans o c (spans_after_pairs s after) []
-    → BeginsWithNo is_line_end (joined span_source (spans_after_pairs s after) ++ [])
-rest_begins s [] named h = sections_begin s.after named h
-rest_begins s (p ∷ after) named (AreInPlace.more (IsSpan.is_pair is) later) =
-    let rest = p.after ++ joined span_source (spans_after_pairs s after) in
-    let text : (pair_source p.stretches ++ rest) ++ []
-    ≡ p.stretches.key ++ p.stretches.separator ∷ (value_source p.stretches ++ (rest ++ [])) =
-    append_assoc (pair_source p.stretches) rest [] ∙ pair_then p.stretches (rest ++ []) in
-    subst (BeginsWithNo is_line_end) (sym text)
-    (no_end_begins (p.stretches.key ++ p.stretches.separator ∷ (value_source p.stretches ++ (rest ++ [])))
-    (key_follows (p.stretches.separator ∷ (value_source p.stretches ++ (rest ++ [])))
-    (KeyFront-alike Alike.same is.key_front)).some)
+  rest_begins : {c : ℕ} (s : Place SectionPiece) (after : List PairPiece)
+      → ((c : ℕ) (q : Stretches) (key value r : Text) → IsPair o c q key value r
+      → BeginsWithNo test (q.key ++ (after_key_source q ++ r)))
+      → list_all (λ t. is_some t.name) s.after ≡ true → AreSpans o c (spans_after_pairs s after) []
+      → BeginsWithNo test (joined span_source (spans_after_pairs s after) ++ [])
+  rest_begins s [] key named h = sections_begin s.after named h
+  rest_begins {c} s (p ∷ after) key named (AreInPlace.more (IsSpan.is_pair {key = k} {value = v} {r = r} is) later) =
+      let rest = p.after ++ joined span_source (spans_after_pairs s after) in
+      let text : (pair_source p.stretches ++ rest) ++ []
+      ≡ p.stretches.key ++ (after_key_source p.stretches ++ (rest ++ [])) =
+      append_assoc (pair_source p.stretches) rest [] ∙ pair_then p.stretches (rest ++ []) in
+      subst (BeginsWithNo test) (sym text) (key c p.stretches k v (rest ++ []) is)
 
 -- the sections after one of a text have names
 later_named : (before : List SectionPiece) (s : SectionPiece) (after : List SectionPiece)
@@ -138,7 +141,7 @@ rest_put_nothing : (o : ParseOption) (g : Text) (s : SectionPiece) (before after
 rest_put_nothing o g s before after = at (ended before)
   where
     one : (p : PairPiece) → with_rest o [] g p ≡ record p { after = p.after ++ g }
-    one p = by (o.enabled_indented_mutiline_value && is_empty p.after)
+    one p = by (is_multiline o p && is_empty p.after)
       where
         by : (b : Bool) → (if b then with_end (p.stretches.trailing_lines ++ []) (p.after ++ g) p
             else with_end p.stretches.trailing_lines (p.after ++ g) p) ≡ record p { after = p.after ++ g }
@@ -186,13 +189,16 @@ module _ (o : ParseOption) {ss : List SectionPiece} {s : Place SectionPiece} {i 
       → IsOut o c p.here.stretches p.here.after (joined span_source later) (comment_of the_lines the_rest)
   out_there {c} one apart (AreInPlace.more (IsSpan.is_pair is) (AreInPlace.more (IsSpan.is_gap g) further)) =
       let following = joined span_source later in
+      let named = later_named s.before s.here s.after (subst BeginGeneral at.whole are.begin_general) in
       commented_is following one
       (pair_commented p.here (following ++ [])
       (subst (IsPair o c p.here.stretches p.here.key p.here.value) (append_assoc p.here.after following [])
       is) g
-      (rest_begins s p.after (later_named s.before s.here s.after
-      (subst BeginGeneral at.whole are.begin_general))
-      further) apart)
+      (rest_begins is_line_end refl s p.after
+      (λ c q key value r next. no_end_begins (q.key ++ (after_key_source q ++ r)) (pair_follows next).some) named
+      further)
+      (rest_begins is_comment_mark refl s p.after (λ c q key value r next. pair_unmarked next) named further)
+      apart)
 
   out_sections : is_line_feed (last_before_pair (last_before_section s) s.here p) ≡ true
       → is_text (line_end_after o p.here) (carriage_return ∷ []) ≡ false

@@ -1,7 +1,7 @@
 -- A new pair put into a text in pieces, directly after another.
 use Rattle.std.proofs.Common.{◌≡◌, ◌∙◌, ◌+◌, ℕ, Bool, true, false, not, List, [], ◌∷◌, ◌++◌, Option, ap}
-use Rattle.std.proofs.Common.{append_assoc, get_or, set, subst, sym}
-use Rattle.ini_text.specs.Laws.Plain.{IsPlainKey, IsReadBack}
+use Rattle.std.proofs.Common.{append_assoc, get_or, if◌then◌else◌, set, subst, sym}
+use Rattle.ini_text.specs.Laws.Plain.{IsPlainKey}
 use Rattle.ini_text.specs.Options.WriteOptions.{line_end}
 use Rattle.ini_text.specs.declared.option.ParseOption.{ParseOption}
 use Rattle.ini_text.specs.declared.write.option.LineSeparator.{LineSeparator}
@@ -14,12 +14,12 @@ use Rattle.ini_edit.specs.Inside.Spans.{AreSections}
 use Rattle.ini_edit.specs.SourceEdits.{with_pairs}
 use Rattle.ini_edit.specs.SourceEditsAdd.{Maker, end_after, pair_put_after, with_line_ended}
 use Rattle.ini_edit.specs.SourceEditsAdded.{inserted_after, made, new_line_end, style_after}
-use Rattle.ini_edit.specs.SourceEditsDelete.{gap_after, lines_after}
+use Rattle.ini_edit.specs.SourceEditsDelete.{empty_comment, gap_after, lines_after, would_be_taken}
 use Rattle.ini_edit.specs.SourcePlaces.{PairPlace, Place, exchanged}
 use Rattle.ini_edit.specs.SourceWritten.{IsFirstReadAs, IsWritableNew, Style, new_pair, value_forms}
 use Rattle.ini_edit.specs.Sources.{PairPiece, Pieces, SectionPiece}
 use Rattle.ini_edit.specs.declared.source.written.NewPair.{NewPair}
-use Rattle.ini_edit.proofs.NewPairLemmas.{IsPlainStyle, IsSourceFor}
+use Rattle.ini_edit.proofs.NewPairLemmas.{IsPlainStyle, IsReadKey, IsSourceFor, read_key}
 use Rattle.ini_edit.proofs.NewStyleLemmas.{new_style_plain, source_for, style_is_new}
 use Rattle.ini_edit.proofs.PutAfterLemmas.{put_after}
 use Rattle.ini_edit.proofs.PutAfterMoreLemmas.{put_after_more}
@@ -30,7 +30,7 @@ use Rattle.ini_edit.proofs.SourcePlaceLemmas.{place_read, place_set, place_take_
 pub put_after_any : (o : ParseOption) (sep : LineSeparator) {policy : EscapePolicy} {key value source :
     Text}
     {style : Style} {ss : List SectionPiece} {s : Place SectionPiece} {i : ℕ}
-    → IsPlainKey o policy key → IsReadBack o policy key → IsPlainStyle o style → IsSourceFor o source value
+    → IsPlainKey o policy key → IsReadKey o policy key → IsPlainStyle o style → IsSourceFor o source value
     → IsPlaceAt ss s i → (p : Place PairPiece) → s.here.pairs ≡ p.before ++ p.here ∷ p.after
     → AreSections o ss
     → AreSections o (exchanged s (pair_put_after o (line_end sep)
@@ -43,7 +43,7 @@ put_after_any o sep {policy} {key} {value} {source} {style} {ss} {s} {i} plain r
     with_lines b = record o { enabled_indented_mutiline_value = b }
 
     one : (sep : LineSeparator) → IsPlainKey (with_lines false) policy key
-        → IsReadBack (with_lines false) policy key
+        → IsReadKey (with_lines false) policy key
         → IsPlainStyle (with_lines false) style → IsSourceFor (with_lines false) source value
         → AreSections (with_lines false) ss
         → AreSections (with_lines false) (exchanged s (pair_put_after (with_lines false) (line_end sep)
@@ -55,7 +55,7 @@ put_after_any o sep {policy} {key} {value} {source} {style} {ss} {s} {i} plain r
     one CR plain read_back is given are = put_after o plain read_back is given feed_end at p whole are
     one CRLF plain read_back is given are = put_after o plain read_back is given return_end at p whole are
 
-    by : (b : Bool) → IsPlainKey (with_lines b) policy key → IsReadBack (with_lines b) policy key
+    by : (b : Bool) → IsPlainKey (with_lines b) policy key → IsReadKey (with_lines b) policy key
         → IsPlainStyle (with_lines b) style → IsSourceFor (with_lines b) source value
         → AreSections (with_lines b) ss
         → AreSections (with_lines b) (exchanged s (pair_put_after (with_lines b) (line_end sep)
@@ -68,9 +68,15 @@ put_after_any o sep {policy} {key} {value} {source} {style} {ss} {s} {i} plain r
 pub same_made : (o : ParseOption) (end : Text) {make other : Maker} (s : SectionPiece) (p : Place PairPiece)
     → ((indented : Bool) (lines rest : Text) → make indented lines rest ≡ other indented lines rest)
     → pair_put_after o end make s p ≡ pair_put_after o end other s p
-same_made o end s p same =
+same_made o end {make} {other} s p same =
+    let new = end_after o end p.here ++ lines_after o p.here in
+    let kept = empty_comment end ++ gap_after o p.here in
     ap (λ q. with_pairs s (exchanged p (with_line_ended o end p.here ∷ q ∷ [])))
-    (same (not o.enabled_indented_mutiline_value) (end_after o end p.here ++ lines_after o p.here) (gap_after o p.here))
+    (ap (λ q. if would_be_taken o p.here p.after then q
+    else make (not o.enabled_indented_mutiline_value) new (gap_after o p.here))
+    (same false end kept)
+    ∙ ap (λ q. if would_be_taken o p.here p.after then other false end kept else q)
+    (same (not o.enabled_indented_mutiline_value) new (gap_after o p.here)))
 
 module _ (o : ParseOption) (w : WriteOption) (ss : List SectionPiece) {key value source : Text}
     (writable : IsWritableNew o w key value)
@@ -113,7 +119,7 @@ module _ (o : ParseOption) (w : WriteOption) (ss : List SectionPiece) {key value
       subst (λ e. AreSections o (exchanged at.place.section (pair_put_after o e
       (made o w key value source (style_after o w ss at.place.section up_to)) at.place.section.here
       at.place.pair ∷ []))) end
-      (put_after_any o sep writable.plain_key writable.key_read_back
+      (put_after_any o sep writable.plain_key (read_key writable)
       (new_style_plain o w up_to at.place.pair.after writable.plain_separator at.section whole are)
       (source_for first) at.section at.place.pair at.pair.whole are)
 

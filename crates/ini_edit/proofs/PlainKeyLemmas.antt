@@ -6,7 +6,7 @@ use Rattle.std.specs.Char.{is_whitespace}
 use Rattle.std.specs.List.{list_all}
 use Rattle.ini_text.specs.Escaping.Policies.{is_escaped}
 use Rattle.ini_text.specs.Grammar.CharacterKinds.{space}
-use Rattle.ini_text.specs.Inside.PlainTests.{begins}
+use Rattle.ini_text.specs.Grammar.CharacterKinds.{begins}
 use Rattle.ini_text.specs.Laws.Plain.{IsBareKey, IsPlainKey, IsPlainPair, IsPlainValue}
 use Rattle.ini_text.specs.declared.option.ParseOption.{ParseOption}
 use Rattle.ini_text.specs.declared.write.policy.EscapePolicy.{EscapePolicy}
@@ -17,7 +17,11 @@ use Rattle.ini_edit.specs.Renamed.{IsPlainBareKey}
 module _ {o : ParseOption} {policy : EscapePolicy} where
   pub plain_bare : {key value : List ℕ} → IsPlainPair o policy key value
       → begins (λ c. eqb c space) key ≡ false → IsPlainBareKey o policy key
-  plain_bare plain other = record { bare = at plain.plain_key other; read_back = plain.key_read_back }
+  plain_bare plain other = record {
+    bare = at plain.plain_key other;
+    no_note = plain.key_no_note;
+    read_back = plain.key_read_back;
+  }
     where
       at : {key : List ℕ} → IsPlainKey o policy key → begins (λ c. eqb c space) key ≡ false
           → IsBareKey o policy key
@@ -31,6 +35,7 @@ module _ {o : ParseOption} {policy : EscapePolicy} where
   empty_plain = record {
     is_trimmed = refl;
     no_quote_mark = λ _. tt;
+    no_note = λ _. refl;
     read_back = record {
       of_characters = refl;
       is_read = inr (record { no_escaped = refl; no_backslash = refl });
@@ -40,6 +45,7 @@ module _ {o : ParseOption} {policy : EscapePolicy} where
   pub bare_plain : {key : List ℕ} → IsPlainBareKey o policy key → IsPlainPair o policy key []
   bare_plain b = record {
     plain_key = IsPlainKey.bare b.bare;
+    key_no_note = b.no_note;
     key_read_back = b.read_back;
     plain_value = empty_plain;
   }

@@ -1,16 +1,16 @@
 -- A pair put directly after another in a text in pieces where values may be multiline: the blank lines after
 -- that pair's own lines are the new pair's then.
 use Rattle.std.proofs.Common.{◌≡◌, ◌≢◌, ◌==◌, ◌∙◌, ◌&&◌, ℕ, Bool, true, false, not, List, [], ◌∷◌}
-use Rattle.std.proofs.Common.{◌++◌, ap, append_assoc, append-nil, if◌then◌else◌, refl, subst}
+use Rattle.std.proofs.Common.{◌++◌, ap, append_assoc, append-nil, if◌then◌else◌, inl, inr, refl, subst}
 use Rattle.std.proofs.Common.{sym}
-use Rattle.std.proofs.lemmas.Bool.{both_ways, false≢true, or_left}
+use Rattle.std.proofs.lemmas.Bool.{both_ways, cases_Bool, cond-false, cond-true, false≢true, or_left}
 use Rattle.ini_text.specs.Grammar.CharacterKinds.{BeginsWith, BeginsWithNo, carriage_return, is_blank}
 use Rattle.ini_text.specs.Grammar.CharacterKinds.{is_comment_mark, is_line_end, is_line_feed, line_feed}
-use Rattle.ini_text.specs.Grammar.Places.{Stretches, TrailingLines, pair_source, value_source}
+use Rattle.ini_text.specs.Grammar.Places.{Stretches, TrailingLines, pair_source}
 use Rattle.ini_text.specs.Grammar.Positions.{last_or, starts_line}
 use Rattle.ini_text.specs.Grammar.Values.{MoreLines}
 use Rattle.ini_text.specs.Laws.PieceLaws.{Agree}
-use Rattle.ini_text.specs.Laws.Plain.{IsPlainKey, IsReadBack}
+use Rattle.ini_text.specs.Laws.Plain.{IsPlainKey}
 use Rattle.ini_text.specs.Options.WriteOptions.{line_end}
 use Rattle.ini_text.specs.Parsing.Fronts.{front_of}
 use Rattle.ini_text.specs.declared.option.ParseOption.{ParseOption}
@@ -21,30 +21,39 @@ use Rattle.ini_text.proofs.LawLemmas.LocalLemmas.{Agree-front}
 use Rattle.ini_text.proofs.LawLemmas.PieceLemmas.{last_or-append}
 use Rattle.ini_text.proofs.StringLemmas.FrontLemmas.{front_is}
 use Rattle.ini.specs.Texts.{Text}
-use Rattle.ini_edit.specs.Endings.{ending}
 use Rattle.ini_edit.specs.Inside.InPlace.{AreInPlace}
 use Rattle.ini_edit.specs.Inside.SourceEnds.{IsPlaceAt}
-use Rattle.ini_edit.specs.Inside.Spans.{AreSections, AreSpans, IsPair, IsSpan, Span, gap, pair}
-use Rattle.ini_edit.specs.Inside.Spans.{span_source}
+use Rattle.ini_edit.specs.Inside.Spans.{AreSections, AreSpans, IsPair, IsSpan, IsValuePair, Span, gap, pair}
+use Rattle.ini_edit.specs.Inside.Spans.{pairs_spans, span_source}
 use Rattle.ini_edit.specs.Places.{Follows}
-use Rattle.ini_edit.specs.SourceEditsAdd.{Maker, closed_value, ended_lines, pair_put_after, with_line_ended}
+use Rattle.ini_edit.specs.SourceEditsAdd.{Maker, closed, end_after, ended_lines, made_after, pair_put_after}
+use Rattle.ini_edit.specs.SourceEditsAdd.{with_line_ended}
+use Rattle.ini_edit.specs.SourceEditsDelete.{gap_after, line_end_after, lines_after, own_lines}
+use Rattle.ini_edit.specs.SourceEditsDelete.{would_be_taken}
 use Rattle.ini_edit.specs.SourceLines.{LinePlace, ends_in_line, is_empty, line_end_at_end}
 use Rattle.ini_edit.specs.SourceLines.{quiet_lines_at_end}
-use Rattle.ini_edit.specs.SourcePlaces.{Place, exchanged}
+use Rattle.ini_edit.specs.SourcePlaces.{Place, exchanged, with_end}
 use Rattle.ini_edit.specs.SourceWritten.{Style, new_pair}
-use Rattle.ini_edit.specs.Sources.{PairPiece, SectionPiece, joined}
+use Rattle.ini_edit.specs.Sources.{PairPiece, SectionPiece, has_separator, is_multiline, joined}
 use Rattle.ini_edit.proofs.AheadLemmas.{value_follows}
 use Rattle.ini_edit.proofs.BlankLineLemmas.{line_last, trailing_blank}
-use Rattle.ini_edit.proofs.ClosedPairLemmas.{closed_is, closing_of, pair_ended}
+use Rattle.ini_edit.proofs.ClosedPairLemmas.{closed_is, closed_key, closed_stretches, key_closing}
+use Rattle.ini_edit.proofs.ClosedPairLemmas.{pair_ended}
 use Rattle.ini_edit.proofs.ClosedPairLemmas.{stays_open}
-use Rattle.ini_edit.proofs.DeletedLinesLemmas.{end_last}
+use Rattle.ini_edit.proofs.DeletedLinesLemmas.{end_last, end_of, own_of}
 use Rattle.ini_edit.proofs.GapLemmas.{gap_like, no_gap}
 use Rattle.ini_edit.proofs.InPlaceLemmas.{Agree-after, in_place-exchanged, in_place-split}
 use Rattle.ini_edit.proofs.NewEndLemmas.{IsEndMore, more_end, trailing_last, trailing_line_end}
 use Rattle.ini_edit.proofs.NewEndLemmas.{written_more}
-use Rattle.ini_edit.proofs.NewPairLemmas.{IsPlainStyle, IsSourceFor, new_pair_follows, new_pair_is}
+use Rattle.ini_edit.proofs.NewPairLemmas.{IsPlainStyle, IsReadKey, IsSourceFor, new_pair_follows}
+use Rattle.ini_edit.proofs.NewPairLemmas.{new_pair_is}
+use Rattle.ini_edit.proofs.NextPairLemmas.{next_pairs, taken}
+use Rattle.ini_edit.proofs.PairEndLemmas.{gap_on, line_end_on, lines_on, no_line_end_on, own_on}
 use Rattle.ini_edit.proofs.PairTailLemmas.{pair_retailed}
-use Rattle.ini_edit.proofs.SourceAddLemmas.{keys_alike, spans_column_off}
+use Rattle.ini_edit.proofs.PairViewLemmas.{goes_on}
+use Rattle.ini_edit.proofs.PutAfterLemmas.{end_for}
+use Rattle.ini_edit.proofs.PutAfterLoneLemmas.{put_after_lone}
+use Rattle.ini_edit.proofs.SourceAddLemmas.{left, sources_alike, spans_column_off}
 use Rattle.ini_edit.proofs.SourceLineLemmas.{quiet_lines_at_end-rest}
 use Rattle.ini_edit.proofs.SourcePartLemmas.{source_last}
 use Rattle.ini_edit.proofs.SourceSpanLemmas.{pairs_put_in, spans_after_pairs, spans_before_pairs}
@@ -103,95 +112,109 @@ module _ (o₀ : ParseOption) (sep : LineSeparator) where
   abbrev end : Text
   end = line_end sep
 
-  -- the ended lines of a pair in each case
-  module _ (p : PairPiece) where
+  -- the ended lines of a pair that goes on over lines, in each case
+  module _ (p : PairPiece) (has : has_separator p ≡ true) where
     abbrev t : Text
     t = p.stretches.trailing_lines
 
-    abbrev ended : PairPiece
-    ended = with_line_ended o end p
+    ended_with_lines : (own : Text) {line : Text} → own_lines o p ≡ own → line_end_after o p ≡ line
+        → ended_lines o end p ≡ own ++ (if is_empty line then end else [])
+    ended_with_lines own own_is line_is =
+        ap (λ w. w ++ (if is_empty (line_end_after o p) then end else [])) own_is
+        ∙ ap (λ l. own ++ (if is_empty l then end else [])) line_is
 
-    abbrev lines_with : Text → Text
-    lines_with own =
-        own ++ (if is_empty (if not (ends_in_line o own) then [] else line_end_at_end own) then end else [])
-
-    kept_value : t ≢ [] → closed_value o p ≡ p.stretches.raw_value
-    kept_value some = stays_open o p (ap (λ b. b && is_empty p.after) (not_empty t some))
+    stays_so : t ≢ [] → closed o p ≡ p
+    stays_so some = stays_open o p (ap (λ b. b && is_empty p.after) (not_empty t some))
 
     cut_lines : (front : Text) → front ≢ [] → t ≡ front ++ quiet_lines_at_end o t
         → ends_in_line o front ≡ true
         → ended_lines o end p ≡ front
     cut_lines front some whole ends =
-        ap lines_with (front_is front (quiet_lines_at_end o t) t (sym whole))
-        ∙ ap (λ b. front ++ (if is_empty (if not b then [] else line_end_at_end front) then end else
-        [])) ends
+        let own : own_lines o p ≡ front =
+        own_on o p has ∙ front_is front (quiet_lines_at_end o t) t (sym whole) in
+        ended_with_lines front own (line_end_on o p has front (sym own) ends)
         ∙ ap (λ b. front ++ (if b then end else [])) (end_some o front some ends)
         ∙ append-nil front
 
     glued_lines : quiet_lines_at_end o t ≡ [] → ends_in_line o t ≡ false → ended_lines o end p ≡ t ++ end
     glued_lines none inside =
-        ap lines_with (front_is t (quiet_lines_at_end o t) t (ap (λ b. t ++ b) none ∙ append-nil t))
-        ∙ ap (λ b. t ++ (if is_empty (if not b then [] else line_end_at_end t) then end else [])) inside
+        let own : own_lines o p ≡ t =
+        own_on o p has ∙ front_is t (quiet_lines_at_end o t) t (ap (λ b. t ++ b) none ∙ append-nil t) in
+        ended_with_lines t own (no_line_end_on o p has t (sym own) inside)
 
     no_lines : t ≡ [] → ended_lines o end p ≡ end
-    no_lines none = ap (λ z. lines_with (front_of z (quiet_lines_at_end o z))) none
+    no_lines none =
+        let own : own_lines o p ≡ [] =
+        own_on o p has ∙ ap (λ z. front_of z (quiet_lines_at_end o z)) none in
+        ended_with_lines [] own (no_line_end_on o p has [] (sym own) refl)
 
     -- the pair with its line ended, before what may follow it
     module _ {c : ℕ} {r : Text} (is : IsPair o c p.stretches p.key p.value r) (x : Text)
         (follows : Follows o x) where
       -- in each case a line starts after it
       pub record IsEnded : Type 0 where
-        pub is_pair : IsPair o c ended.stretches p.key p.value x
-        pub starts : (d : ℕ) → is_line_end (last_or d ended.stretches.trailing_lines) ≡ true
+        pub stretches : Stretches
+        pub same : with_line_ended o end p
+            ≡ record { stretches = stretches; key = p.key; value = p.value; after = [] }
+        pub more : Text
+        pub key : stretches.key ≡ p.stretches.key ++ more
+        pub is_pair : IsPair o c stretches p.key p.value x
+        pub starts : (d : ℕ) → is_line_end (last_or d stretches.trailing_lines) ≡ true
 
-      ended_so : (raw lines : Text) → closed_value o p ≡ raw → ended_lines o end p ≡ lines
-          → IsPair o c (record p.stretches { raw_value = raw; trailing_lines = lines }) p.key p.value x
+      ended_so : (s : Stretches) (lines more : Text) → closed o p ≡ record p { stretches = s }
+          → ended_lines o end p ≡ lines → s.key ≡ p.stretches.key ++ more
+          → IsPair o c (record s { trailing_lines = lines }) p.key p.value x
           → ((d : ℕ) → is_line_end (last_or d lines) ≡ true) → IsEnded
-      ended_so raw lines raw_is lines_is h starts = record {
-        is_pair = subst (λ s. IsPair o c s p.key p.value x)
-            (ap (λ v. record p.stretches { raw_value = v; trailing_lines = lines }) (sym raw_is)
-            ∙ ap (λ l. record p.stretches { raw_value = closed_value o p; trailing_lines = l }) (sym
-            lines_is))
-            h;
-        starts = λ d. ap (λ l. is_line_end (last_or d l)) lines_is ∙ starts d;
+      ended_so s lines more closed_so lines_is key_is h starts = record {
+        stretches = record s { trailing_lines = lines };
+        same = cond-true (is_multiline o p) _ _ has
+            ∙ ap (λ l. with_end l [] (closed o p)) lines_is ∙ ap (with_end lines []) closed_so;
+        more = more;
+        key = key_is;
+        is_pair = h;
+        starts = starts;
       }
 
       pub pair_line_ended : (r ≡ [] → p.after ≡ []) → IsEnded
-      pair_line_ended nothing_after = at (trailing_cut refl is.are_trailing)
+      pair_line_ended nothing_after = at (trailing_cut refl value.are_trailing)
         where
-          raw : Text
-          raw = p.stretches.raw_value
+          value : IsValuePair o c p.stretches p.key p.value r
+          value = goes_on is has
+
+          same_key : p.stretches.key ≡ p.stretches.key ++ []
+          same_key = sym (append-nil p.stretches.key)
 
           at : TrailingCut o t r → IsEnded
           at (TrailingCut.cut front some whole ends are) =
               let b = quiet_lines_at_end o t in
               let there : t ≢ [] = λ none. some_more front b some (sym whole ∙ none) in
-              ended_so raw front (kept_value there) (cut_lines front some whole ends)
+              ended_so p.stretches front [] (stays_so there) (cut_lines front some whole ends) same_key
               (pair_retailed refl there is (are x follows))
               (λ d. line_last o LinePlace.within d front (λ h. absurd (false≢true h)) ends)
           at (TrailingCut.unended some none empty inside are) =
-              ended_so raw (t ++ end) (kept_value some) (glued_lines none inside)
+              ended_so p.stretches (t ++ end) [] (stays_so some) (glued_lines none inside) same_key
               (pair_retailed refl some is (are sep x follows))
               (λ d. ap is_line_end (last_or-append d t end)
               ∙ feed_ends (last_or (last_or d t) end) (end_feed sep (last_or d t)))
           at (TrailingCut.nothing none empty) =
-              ended_so (raw ++ closing_of o (ending o raw)) end (closed_is o p none (nothing_after empty))
-              (no_lines none) (pair_ended is none sep x refl follows)
+              ended_so (closed_stretches o p.stretches) end (key_closing o p.stretches)
+              (closed_is o p none (nothing_after empty)) (no_lines none) (closed_key o p.stretches)
+              (pair_ended value none sep x refl follows)
               (λ d. feed_ends (last_or d end) (end_feed sep d))
 
 -- the pair that is put in
 module _ (o₀ : ParseOption) (sep : LineSeparator) {policy : EscapePolicy} {key value source : Text}
     {style : Style}
-    (plain : IsPlainKey (many_lines o₀) policy key) (read_back : IsReadBack (many_lines o₀) policy key)
+    (plain : IsPlainKey (many_lines o₀) policy key) (read_back : IsReadKey (many_lines o₀) policy key)
     (is : IsPlainStyle (many_lines o₀) style) (given : IsSourceFor (many_lines o₀) source value) where
   abbrev make : Maker
   make indented lines rest =
       new_pair (many_lines o₀) policy style indented key value source lines rest
 
-  module _ (xs zs : List Span) (p : PairPiece) where
-    abbrev o₁ : ParseOption
-    o₁ = many_lines o₀
+  abbrev o₁ : ParseOption
+  o₁ = many_lines o₀
 
+  module _ (xs zs : List Span) (p : PairPiece) (has : has_separator p ≡ true) where
     abbrev blank : Text
     blank = quiet_lines_at_end o₁ p.stretches.trailing_lines
 
@@ -201,8 +224,11 @@ module _ (o₀ : ParseOption) (sep : LineSeparator) {policy : EscapePolicy} {key
     abbrev lines : Text
     lines = new_end ++ blank
 
+    abbrev new : PairPiece
+    new = make false lines p.after
+
     abbrev made : Stretches
-    made = (make false lines p.after).stretches
+    made = new.stretches
 
     abbrev shut : PairPiece
     shut = with_line_ended o₁ (line_end sep) p
@@ -223,8 +249,7 @@ module _ (o₀ : ParseOption) (sep : LineSeparator) {policy : EscapePolicy} {key
         sym (ap is_line_end (ap (last_or d) whole ∙ last_or-append d f (x ∷ b))) ∙ h
 
     spans_put_more : AreSpans o₁ line_feed (xs ++ (pair p.stretches p.key p.value ∷ gap p.after ∷ zs)) []
-        → AreSpans o₁ line_feed
-        (xs ++ (pair shut.stretches p.key p.value ∷ gap [] ∷ pair made key value ∷ gap p.after ∷ zs)) []
+        → AreSpans o₁ line_feed (xs ++ (pairs_spans (shut ∷ new ∷ []) ++ zs)) []
     spans_put_more h =
         at (in_place-split span_source xs (pair p.stretches p.key p.value ∷ gap p.after ∷ zs) h).1
       where
@@ -232,8 +257,7 @@ module _ (o₀ : ParseOption) (sep : LineSeparator) {policy : EscapePolicy} {key
         c = last_or line_feed (joined span_source xs)
 
         at : AreSpans o₁ c (pair p.stretches p.key p.value ∷ gap p.after ∷ zs) []
-            → AreSpans o₁ line_feed
-            (xs ++ (pair shut.stretches p.key p.value ∷ gap [] ∷ pair made key value ∷ gap p.after ∷ zs)) []
+            → AreSpans o₁ line_feed (xs ++ (pairs_spans (shut ∷ new ∷ []) ++ zs)) []
         at (AreInPlace.more (IsSpan.is_pair was) (AreInPlace.more (IsSpan.is_gap g) rest)) =
             let z = joined span_source zs in
             let gap_text = p.after in
@@ -242,19 +266,20 @@ module _ (o₀ : ParseOption) (sep : LineSeparator) {policy : EscapePolicy} {key
             let follows : Follows o₁ x =
             subst (Follows o₁) (sym (append_assoc (pair_source made) (gap_text ++ []) (z ++ [])))
             (new_pair_follows plain read_back is given lines gap_text r refl) in
-            let ended = pair_line_ended o₀ sep p was x follows
+            let value_pair = goes_on was has in
+            let ended = pair_line_ended o₀ sep p has was x follows
             (λ e. front_nothing gap_text z (front_nothing (gap_text ++ z) [] e)) in
-            let cs = last_or c (pair_source shut.stretches) in
+            let cs = last_or c (pair_source ended.stretches) in
             let cp = last_or c (pair_source p.stretches) in
             let cq = last_or cs (pair_source made) in
             let starts : starts_line (cs ∷ []) ≡ true =
-            ap is_line_end (sym (source_last c shut.stretches)) ∙ ended.starts _ in
-            let there = trailing_blank refl was.are_trailing in
+            ap is_line_end (sym (source_last c ended.stretches)) ∙ ended.starts _ in
+            let there = trailing_blank refl value_pair.are_trailing in
             let same : (gap_text ++ z) ++ [] ≡ r =
             append_assoc gap_text z [] ∙ ap (λ t. t ++ (z ++ [])) (sym (append-nil gap_text)) in
-            let follow = value_follows refl was.gives in
+            let follow = value_follows refl value_pair.gives in
             let trailed : TrailingLines o₁ p.stretches.trailing_lines r =
-            subst (TrailingLines o₁ p.stretches.trailing_lines) same was.are_trailing in
+            subst (TrailingLines o₁ p.stretches.trailing_lines) same value_pair.are_trailing in
             let is_end : IsEndMore o₁ p.stretches.trailing_lines r new_end =
             written_more refl trailed (subst (Follows o₁) same follow) sep (λ off mark d.
             ap is_line_feed (trailing_last refl trailed mark d _ ∙ source_last c p.stretches)
@@ -271,7 +296,7 @@ module _ (o₀ : ParseOption) (sep : LineSeparator) {policy : EscapePolicy} {key
             let agree : Agree o₁ (cp ∷ []) (cq ∷ []) (gap_text ++ z) = record {
               line = λ b. absurd (no_both is_blank ((gap_text ++ z) ++ [])
                   (subst (BeginsWith is_blank) (sym (append-nil (gap_text ++ z))) b)
-                  ((value_follows refl was.gives).no_blank refl));
+                  ((value_follows refl value_pair.gives).no_blank refl));
               column = λ m.
                   ap is_line_feed (sym (source_last c p.stretches))
                   ∙ sym (is_end.column (mark_later m) cs _) ∙ sym (ap is_line_feed (last_made is_end cs));
@@ -282,25 +307,39 @@ module _ (o₀ : ParseOption) (sep : LineSeparator) {policy : EscapePolicy} {key
                   (front_of p.stretches.trailing_lines blank)
                   (sym (quiet_lines_at_end-rest o₁ p.stretches.trailing_lines)) ends);
             } in
-            in_place-exchanged span_source spans_local xs
+            subst (λ (a : PairPiece). AreSpans o₁ line_feed (xs ++ (pairs_spans (a ∷ new ∷ []) ++ zs)) [])
+            (sym ended.same)
+            (in_place-exchanged span_source spans_local xs
             (pair p.stretches p.key p.value ∷ gap gap_text ∷ [])
-            (pair shut.stretches p.key p.value ∷ gap [] ∷ pair made key value ∷ gap gap_text ∷ []) zs h
+            (pair ended.stretches p.key p.value ∷ gap [] ∷ pair made key value ∷ gap gap_text ∷ []) zs h
             (AreInPlace.more (IsSpan.is_pair ended.is_pair)
             (AreInPlace.more (IsSpan.is_gap no_gap)
             (AreInPlace.more (IsSpan.is_pair made_is)
             (AreInPlace.more (IsSpan.is_gap (gap_like (Agree-front z agree) g)) AreInPlace.none))))
-            (keys_alike p.stretches.key p.stretches.separator (value_source p.stretches)
-            (value_source shut.stretches) (gap_text ++ []) (pair_source made ++ (gap_text ++ [])) (z ++ [])
-            (z ++ []))
-            (subst (λ d. Agree o₁ (d ∷ []) (last_or c (pair_source shut.stretches
+            (sources_alike was ended.stretches ended.more ended.key (gap_text ++ [])
+            (pair_source made ++ (gap_text ++ [])) (z ++ []) (z ++ []))
+            (subst (λ d. Agree o₁ (d ∷ []) (last_or c (pair_source ended.stretches
             ++ (pair_source made ++ (gap_text ++ []))) ∷ []) z)
             (sym (last_or-append c (pair_source p.stretches) (gap_text ++ [])
             ∙ ap (last_or cp) (append-nil gap_text)))
             (subst (λ d. Agree o₁ (last_or cp gap_text ∷ []) (d ∷ []) z)
-            (sym (last_or-append c (pair_source shut.stretches) (pair_source made ++ (gap_text ++ []))
+            (sym (last_or-append c (pair_source ended.stretches) (pair_source made ++ (gap_text ++ []))
             ∙ last_or-append cs (pair_source made) (gap_text ++ [])
             ∙ ap (last_or cq) (append-nil gap_text)))
-            (Agree-after gap_text z agree)))
+            (Agree-after gap_text z agree))))
+
+    -- which are those of the pair that the new one is directly after
+    made_is : (ps : List PairPiece) → made_after o₁ (line_end sep) make p ps ≡ new
+    made_is ps =
+        let t = p.stretches.trailing_lines in
+        let end_is : line_end_after o₁ p ≡ end_of o₁ (own_of o₁ t) =
+        ap (λ b. if b && not (ends_in_line o₁ (own_lines o₁ p)) then []
+        else line_end_at_end (own_lines o₁ p)) has
+        ∙ ap (end_of o₁) (own_on o₁ p has) in
+        cond-false (would_be_taken o₁ p ps) _ _ (ap (λ b. not b && taken (gap_after o₁ p) ps) has)
+        ∙ ap (λ l. make false (end_for o₁ (line_end sep) l ++ lines_after o₁ p) (gap_after o₁ p)) end_is
+        ∙ ap (λ l. make false (new_end ++ l) (gap_after o₁ p)) (lines_on o₁ p has)
+        ∙ ap (make false lines) (gap_on o₁ p has)
 
   -- and the sections
   pub put_after_more : {ss : List SectionPiece} {s : Place SectionPiece} {i : ℕ} → IsPlaceAt ss s i
@@ -308,6 +347,33 @@ module _ (o₀ : ParseOption) (sep : LineSeparator) {policy : EscapePolicy} {key
       → AreSections (many_lines o₀)
       (exchanged s (pair_put_after (many_lines o₀) (line_end sep) make s.here p ∷ []))
   put_after_more {s = s} at p whole are =
-      let new = make false (lines [] [] p.here) p.here.after in
-      pairs_put_in (many_lines o₀) at p.before (p.here ∷ []) (shut [] [] p.here ∷ new ∷ []) p.after whole
-      (spans_put_more (spans_before_pairs s p.before) (spans_after_pairs s p.after) p.here) are
+      pairs_put_in (many_lines o₀) at p.before (p.here ∷ [])
+      (with_line_ended o₁ (line_end sep) p.here ∷ made_after o₁ (line_end sep) make p.here p.after ∷ [])
+      p.after whole put are
+    where
+      xs : List Span
+      xs = spans_before_pairs s p.before
+
+      zs : List Span
+      zs = spans_after_pairs s p.after
+
+      here : Span
+      here = pair p.here.stretches p.here.key p.here.value
+
+      put : AreSpans o₁ line_feed (spans_before_pairs s p.before
+          ++ (pairs_spans (p.here ∷ []) ++ spans_after_pairs s p.after)) []
+          → AreSpans o₁ line_feed (spans_before_pairs s p.before
+          ++ (pairs_spans (with_line_ended o₁ (line_end sep) p.here
+          ∷ made_after o₁ (line_end sep) make p.here p.after ∷ []) ++ spans_after_pairs s p.after)) []
+      put h = elim (cases_Bool (has_separator p.here)) [
+        | inl has ↦
+            subst (λ (b : PairPiece). AreSpans o₁ line_feed (spans_before_pairs s p.before
+            ++ (pairs_spans (with_line_ended o₁ (line_end sep) p.here ∷ b ∷ [])
+            ++ spans_after_pairs s p.after)) [])
+            (sym (made_is xs zs p.here has p.after)) (spans_put_more xs zs p.here has h)
+        | inr lone ↦
+            let later = in_place-split span_source (xs ++ (here ∷ gap p.here.after ∷ [])) zs
+            (left xs (here ∷ gap p.here.after ∷ []) zs h) in
+            put_after_lone o₀ sep plain read_back is given zs p.after (next_pairs at are p.after later.1) xs
+            p.here lone h
+      ]

@@ -6,7 +6,6 @@ use Rattle.ini_text.specs.Grammar.Places.{Stretches, pair_source}
 use Rattle.ini_text.specs.Grammar.Positions.{last_or}
 use Rattle.ini_text.specs.Laws.PieceLaws.{Agree, BeginAlike}
 use Rattle.ini_text.specs.declared.option.ParseOption.{ParseOption}
-use Rattle.ini_text.proofs.LawLemmas.OneAheadLemmas.{Alike, KeyFront-alike}
 use Rattle.ini_text.proofs.LawLemmas.PieceLemmas.{last_or-append}
 use Rattle.ini.specs.Texts.{Text}
 use Rattle.ini_edit.specs.Inside.InPlace.{AreInPlace}
@@ -14,7 +13,7 @@ use Rattle.ini_edit.specs.Inside.Spans.{AreSpans, IsGap, IsPair, IsSpan, Span, g
 use Rattle.ini_edit.specs.SourceLines.{are_comments}
 use Rattle.ini_edit.specs.Sources.{PairPiece, joined}
 use Rattle.ini_edit.proofs.AheadLemmas.{FollowsFront}
-use Rattle.ini_edit.proofs.CommentPutLemmas.{comments_parted, key_agrees, pair_some, pair_then, sees}
+use Rattle.ini_edit.proofs.CommentPutLemmas.{comments_parted, pair_agrees, pair_some, sees}
 use Rattle.ini_edit.proofs.GapLemmas.{gap_join}
 use Rattle.ini_edit.proofs.InPlaceLemmas.{in_place-before, in_place-join, in_place-like, in_place-split}
 use Rattle.ini_edit.proofs.SpanFrontLemmas.{gap_free}
@@ -71,16 +70,14 @@ module _ (o : ParseOption) (xs zs : List Span) (q : Stretches) (key value kept c
           → AreSpans o front_last (gap (kept ++ comments) ∷ there) []
           → AreSpans o line_feed (xs ++ (gap (kept ++ glue) ∷ with_new)) []
       at before (AreInPlace.more (IsSpan.is_gap g) (AreInPlace.more (IsSpan.is_pair is) later)) =
-          let f = sees o xs zs q key value kept comments glue comments are is in
-          let some : following ≢ [] = λ none. pair_some q (joined span_source zs ++ [])
+          let f = sees o xs zs q key value kept comments glue comments are column is in
+          let some : following ≢ [] = λ none. pair_some is
           (sym (append_assoc (pair_source q) (joined span_source zs) []) ∙ none) in
           let parts = comments_parted kept comments some column g in
           let last = last_or (last_or glued (pair_source n.stretches)) n.after in
           let agrees : Agree o (last_or front_last (kept ++ comments) ∷ []) (last ∷ [])
           (joined span_source there) =
-          subst (Agree o (last_or front_last (kept ++ comments) ∷ []) (last ∷ []))
-          (sym (pair_then q (joined span_source zs)))
-          (key_agrees (KeyFront-alike Alike.same is.key_front) new.column) in
+          pair_agrees (joined span_source zs) is new.column in
           in_place-join span_source xs (gap (kept ++ glue) ∷ with_new)
           (front kept f new.ahead before)
           (AreInPlace.more

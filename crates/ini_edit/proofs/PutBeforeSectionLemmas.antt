@@ -11,7 +11,7 @@ use Rattle.ini_text.specs.Grammar.CharacterKinds.{BeginsWith, is_blank, is_line_
 use Rattle.ini_text.specs.Grammar.CharacterKinds.{line_feed}
 use Rattle.ini_text.specs.Grammar.Places.{Stretches, pair_source}
 use Rattle.ini_text.specs.Grammar.Positions.{last_or}
-use Rattle.ini_text.specs.Inside.PlainTests.{begins}
+use Rattle.ini_text.specs.Grammar.CharacterKinds.{begins}
 use Rattle.ini_text.specs.Parsing.Fronts.{front_of}
 use Rattle.ini_text.specs.declared.option.ParseOption.{ParseOption}
 use Rattle.ini_text.proofs.LawLemmas.PieceLemmas.{last_or-append}
@@ -28,6 +28,7 @@ use Rattle.ini_edit.specs.SourceLines.{LinePlace, are_comments, comments_at_end,
 use Rattle.ini_edit.specs.SourcePlaces.{Place, exchanged, gap_of, gap_put, is_nil, last_before_gap}
 use Rattle.ini_edit.specs.SourcePlaces.{last_before_section}
 use Rattle.ini_edit.specs.Sources.{PairPiece, SectionPiece, joined}
+use Rattle.ini_edit.proofs.AheadLemmas.{FollowsFront, NoNoteAfter}
 use Rattle.ini_edit.proofs.BlankLineLemmas.{line_last, no_lines, trailing_ends}
 use Rattle.ini_edit.proofs.CommentLineLemmas.{lines_may_follow}
 use Rattle.ini_edit.proofs.CommentPutLemmas.{bare}
@@ -41,47 +42,59 @@ use Rattle.ini_edit.proofs.PutBeforeLemmas.{spans_put_before}
 use Rattle.ini_edit.proofs.SourceAddLemmas.{IsNewEnd, line_ends_gap}
 use Rattle.ini_edit.proofs.SourceSetLemmas.{before_tail}
 use Rattle.ini_edit.proofs.SourceSpanLemmas.{gap_put_in, last_of_gap, spans_after_pairs, spans_before_gap}
+use Rattle.ini_edit.proofs.SpanFrontLemmas.{lone_apart}
 
--- a multiline value that more follows ends with a line end
+-- a pair that more follows, which begins with no line end, ends with one
 pub pair_ends_line : {o : ParseOption} {c : ℕ} {p : Stretches} {key value r : Text}
-    → o.enabled_indented_mutiline_value ≡ true → r ≢ [] → IsPair o c p key value r
+    → o.enabled_indented_mutiline_value ≡ true → BeginsWith (λ c. not (is_line_end c)) r
+    → NoNoteAfter (last_or c (pair_source p) ∷ []) r → IsPair o c p key value r
     → is_line_end (last_or c (pair_source p)) ≡ true
-pair_ends_line {o = o} {c = c} {p = p} on some is =
+pair_ends_line {o = o} {c = c} {p = p} on begins apart (IsPair.has_value is) =
     ap is_line_end (tail_last c p)
     ∙ line_last o LinePlace.within (last_or c (before_tail p)) p.trailing_lines
     (λ inner. absurd (false≢true inner))
-    (trailing_ends some on is.are_trailing)
+    (trailing_ends (λ none. false≢true (sym (subst (BeginsWith (λ c. not (is_line_end c))) none begins))) on
+    is.are_trailing)
+pair_ends_line on begins apart (IsPair.is_lone is) = lone_apart begins apart is
 
 -- so a line ends before a pair that directly follows a multiline value
 pub spans_end_line : {o : ParseOption} {c : ℕ} {y : Text} (xs : List Span) (p : Stretches) (key value : Text)
-    → o.enabled_indented_mutiline_value ≡ true → y ≢ [] → AreSpans o c (xs ++ pair p key value ∷ []) y
+    → o.enabled_indented_mutiline_value ≡ true → BeginsWith (λ c. not (is_line_end c)) y
+    → NoNoteAfter (last_or c (joined span_source (xs ++ pair p key value ∷ [])) ∷ []) y
+    → AreSpans o c (xs ++ pair p key value ∷ []) y
     → is_line_end (last_or c (joined span_source (xs ++ pair p key value ∷ []))) ≡ true
-spans_end_line {o} {c} {y} xs p key value on some h =
+spans_end_line {o} {c} {y} xs p key value on begins apart h =
     at (in_place-split span_source xs (pair p key value ∷ []) h).1
   where
     last : ℕ
     last = last_or c (joined span_source xs)
 
+    last_is : last_or c (joined span_source (xs ++ pair p key value ∷ [])) ≡ last_or last (pair_source p)
+    last_is =
+        ap (last_or c) (joined-append span_source xs (pair p key value ∷ []))
+        ∙ last_or-append c (joined span_source xs) (pair_source p ++ [])
+        ∙ ap (last_or last) (append-nil (pair_source p))
+
     at : AreSpans o (last_or c (joined span_source xs)) (pair p key value ∷ []) y
         → is_line_end (last_or c (joined span_source (xs ++ pair p key value ∷ []))) ≡ true
     at (AreInPlace.more (IsSpan.is_pair is) AreInPlace.none) =
-        ap is_line_end
-        (ap (last_or c) (joined-append span_source xs (pair p key value ∷ []))
-        ∙ last_or-append c (joined span_source xs) (pair_source p ++ [])
-        ∙ ap (last_or last) (append-nil (pair_source p)))
-        ∙ pair_ends_line on some is
+        ap is_line_end last_is
+        ∙ pair_ends_line on begins (subst (λ z. NoNoteAfter (z ∷ []) y) last_is apart) is
 
 -- where a pair directly follows a multiline value, a line starts
 line_before : {o : ParseOption} (s : Place SectionPiece) (before : List PairPiece) {y : Text} → before ≢ []
-    → o.enabled_indented_mutiline_value ≡ true → y ≢ [] → AreSpans o line_feed (spans_before_gap s before) y
+    → o.enabled_indented_mutiline_value ≡ true → BeginsWith (λ c. not (is_line_end c)) y
+    → NoNoteAfter (last_or line_feed (joined span_source (spans_before_gap s before)) ∷ []) y
+    → AreSpans o line_feed (spans_before_gap s before) y
     → is_line_end (last_or line_feed (joined span_source (spans_before_gap s before))) ≡ true
-line_before {o} s before {y} some on more h = by (ended before) some h
+line_before {o} s before {y} some on more apart h = by (ended before) some apart h
   where
     by : {before : List PairPiece} → Ended before → before ≢ []
+        → NoNoteAfter (last_or line_feed (joined span_source (spans_before_gap s before)) ∷ []) y
         → AreSpans o line_feed (spans_before_gap s before) y
         → is_line_end (last_or line_feed (joined span_source (spans_before_gap s before))) ≡ true
-    by Ended.nothing some h = absurd (some refl)
-    by (Ended.one_last ps b) some h =
+    by Ended.nothing some apart h = absurd (some refl)
+    by (Ended.one_last ps b) some apart h =
         let first = opening s.here.name s.here.header in
         let xs = sections_spans s.before ++ (first ∷ gap s.here.after ∷ pairs_spans ps) in
         let one = pair b.stretches b.key b.value in
@@ -91,6 +104,7 @@ line_before {o} s before {y} some on more h = by (ended before) some h
         (one ∷ [])) in
         subst (λ l. is_line_end (last_or line_feed (joined span_source l)) ≡ true) (sym is)
         (spans_end_line xs b.stretches b.key b.value on more
+        (subst (λ l. NoNoteAfter (last_or line_feed (joined span_source l) ∷ []) y) is apart)
         (subst (λ l. AreSpans o line_feed l y) is h))
 
 some_not_nil : {A : Type 0} (xs : List A) → xs ≢ [] → is_nil xs ≡ false
@@ -184,12 +198,13 @@ module _ (o : ParseOption) {ss : List SectionPiece} {s : Place SectionPiece} {i 
 
       -- directly after a multiline value no line end is put, and nothing indents the new pair
       new_follows : p.before ≢ [] → o.enabled_indented_mutiline_value ≡ true → kept ≡ []
-          → comments ++ following ≢ [] → AreSpans o line_feed spans_ahead (comments ++ following)
+          → FollowsFront (last ∷ []) (comments ++ following)
+          → AreSpans o line_feed spans_ahead (comments ++ following)
           → (x : Text) → Follows o (glue ++ (pair_source n.stretches ++ x))
-      new_follows some on none more before x =
+      new_follows some on none f before x =
           let start : is_line_end (last_or last kept) ≡ true =
           subst (λ k. is_line_end (last_or last k) ≡ true) (sym none)
-          (line_before s p.before some on more before) in
+          (line_before s p.before some on f.some f.note before) in
           let apart : is_indented kept ≡ false =
           ap (λ b. not b || (is_nil p.before || not (is_empty kept))) on
           ∙ ap (λ b. b || not (is_empty kept)) (some_not_nil p.before some)
@@ -223,9 +238,7 @@ module _ (o : ParseOption) {ss : List SectionPiece} {s : Place SectionPiece} {i 
                 (λ some on. subst (λ t. Follows o (glue ++ t))
                 (sym (append_assoc (pair_source n.stretches)
                 (n.after ++ joined span_source (spans_after_pairs s (p.here ∷ p.after))) []))
-                (new_follows some on none
-                (λ is. false≢true (sym (subst (BeginsWith (λ c. not (is_line_end c))) is f.some)))
-                before ((n.after ++ joined span_source
+                (new_follows some on none f before ((n.after ++ joined span_source
                 (spans_after_pairs s (p.here ∷ p.after))) ++ []))) f before;
           })
 

@@ -10,7 +10,7 @@ use Rattle.ini_text.specs.Grammar.CharacterKinds.{is_comment_mark, is_line_end, 
 use Rattle.ini_text.specs.Grammar.Places.{pair_source}
 use Rattle.ini_text.specs.Grammar.Positions.{is_column_one, last_or}
 use Rattle.ini_text.specs.Grammar.Values.{LineEnd}
-use Rattle.ini_text.specs.Inside.PlainTests.{begins}
+use Rattle.ini_text.specs.Grammar.CharacterKinds.{begins}
 use Rattle.ini_text.specs.Laws.PieceLaws.{Agree}
 use Rattle.ini_text.specs.declared.option.ParseOption.{ParseOption}
 use Rattle.ini_text.proofs.LawLemmas.PieceLemmas.{last_or-append}
@@ -98,7 +98,8 @@ pub begins_later : (test : ℕ → Bool) (t r : Text) → is_empty t ≡ true �
 begins_later test [] r none = refl
 begins_later test (c ∷ t) r none = absurd (false≢true none)
 
-pub begins_sooner : (test : ℕ → Bool) (t r : Text) → is_empty t ≡ false → begins test (t ++ r) ≡ begins test t
+pub begins_sooner : (test : ℕ → Bool) (t r : Text) → is_empty t ≡ false
+    → begins test (t ++ r) ≡ begins test t
 begins_sooner test [] r some = absurd (false≢true (sym some))
 begins_sooner test (c ∷ t) r some = refl
 
@@ -185,7 +186,8 @@ module _ {o : ParseOption} {c : ℕ} {gap_text r : Text} {q : GapPlace} {d : ℕ
         (gap_like (agrees q.lines refl) free.after)
       where
         agrees : (l : Text) → q.lines ≡ l
-            → Agree o (last_or (last_or c q.before) q.lines ∷ []) (last_or (last_or e es) q.lines ∷ []) q.after
+            → Agree o (last_or (last_or c q.before) q.lines ∷ [])
+            (last_or (last_or e es) q.lines ∷ []) q.after
         agrees (y ∷ l) is =
             subst (λ l. Agree o (last_or (last_or c q.before) l ∷ [])
             (last_or (last_or e es) l ∷ []) q.after) (sym is)

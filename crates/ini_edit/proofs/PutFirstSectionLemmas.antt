@@ -209,7 +209,8 @@ module _ (o : ParseOption) {ss : List SectionPiece} {s : Place SectionPiece} {i 
           ]
           | inr begins ↦ absurd (both_ways (is_empty q.before)
               (first_some o (is_nil s.after) s.here.after q begins
-              (ap (λ b. first_place o b (is_nil s.after) s.here.after) (sym named) ∙ is)) (ap is_empty nothing))
+              (ap (λ b. first_place o b (is_nil s.after) s.here.after) (sym named) ∙ is))
+              (ap is_empty nothing))
         ]
       ]
 

@@ -1,13 +1,14 @@
 -- Quiet lines, where a line starts, are a gap: line ends, blanks, and indented comments.
-use Rattle.std.proofs.Common.{◌≡◌, ◌∙◌, ◌==◌, ◌||◌, ℕ, Bool, true, false, not, [], ◌∷◌, ◌++◌, ap}
+use Rattle.std.proofs.Common.{◌≡◌, ◌∙◌, ◌==◌, ◌&&◌, ◌||◌, ℕ, Bool, true, false, not, [], ◌∷◌, ◌++◌, ap}
 use Rattle.std.proofs.Common.{append_assoc, eqb-true, if◌then◌else◌, inl, inr, refl, subst, sym}
 use Rattle.std.specs.Prelude.{◌⊎◌}
-use Rattle.std.proofs.lemmas.Bool.{and_parts, both_ways, cases_Bool, cond-false, cond-true}
+use Rattle.std.proofs.lemmas.Bool.{and_parts, and_right, both_ways, cases_Bool, cond-false, cond-true}
 use Rattle.std.proofs.lemmas.Bool.{false≢true, or_cases, or_parts}
 use Rattle.std.proofs.lemmas.List.Folds.{list_all-append}
 use Rattle.std.specs.List.{list_all}
 use Rattle.ini_text.specs.Grammar.CharacterKinds.{carriage_return, is_blank, is_comment_mark}
-use Rattle.ini_text.specs.Grammar.CharacterKinds.{is_inline_white, is_line_end, is_line_feed, line_feed, space}
+use Rattle.ini_text.specs.Grammar.CharacterKinds.{is_inline_white, is_line_end, is_line_feed, line_feed}
+use Rattle.ini_text.specs.Grammar.CharacterKinds.{space}
 use Rattle.ini_text.specs.Grammar.Elements.{Element, Gap}
 use Rattle.ini_text.specs.Grammar.Keys.{Indentation, begins_note}
 use Rattle.ini_text.specs.Grammar.Lines.{Note}
@@ -22,7 +23,8 @@ use Rattle.ini_edit.specs.Inside.Spans.{IsGap}
 use Rattle.ini_edit.specs.SourceLines.{LinePlace, are_quiet, ends_line, is_blank_or_line_end, next_within}
 use Rattle.ini_edit.specs.SourceLines.{next_place}
 use Rattle.ini_edit.proofs.DroppedKeyLemmas.{blank_no_end}
-use Rattle.ini_edit.proofs.GapLemmas.{EndsThere, after_blank, after_line, ends_later, gap_more, no_gap, one_more}
+use Rattle.ini_edit.proofs.GapLemmas.{EndsThere, after_blank, after_line, ends_later, gap_more, no_gap}
+use Rattle.ini_edit.proofs.GapLemmas.{one_more}
 use Rattle.ini_edit.proofs.QuietWalkLemmas.{first_lead, first_note, next_lead, next_note, no_note}
 
 -- what waits for the next character, after the character c, and a character that ends as it does: nothing
@@ -58,6 +60,11 @@ lead_return : (o : ParseOption) → (if is_inline_white carriage_return then Lin
     ≡ LinePlace.within
 lead_return o = cond-false (begins_note o carriage_return) _ _ (no_note o carriage_return (λ on. refl))
 
+space_return : (o : ParseOption) → (if o.enabled_inline_comment && is_comment_mark carriage_return
+    then LinePlace.note else next_within o carriage_return) ≡ LinePlace.within
+space_return o = cond-false (o.enabled_inline_comment && false) LinePlace.note LinePlace.within
+    (and_right o.enabled_inline_comment false refl)
+
 end_next : (o : ParseOption) (p : LinePlace) (e : ℕ) (t : Text) → is_line_end e ≡ true
     → (next_place o p e t ≡ LinePlace.line) ⊎ (next_place o p e t ≡ LinePlace.within)
 end_next o p e t end = at p (cases_Bool (ends_line e t))
@@ -68,6 +75,7 @@ end_next o p e t end = at p (cases_Bool (ends_line e t))
     at LinePlace.line (inl ends) = inl (cond-true (ends_line e t) _ _ ends)
     at LinePlace.lead (inl ends) = inl (cond-true (ends_line e t) _ _ ends)
     at LinePlace.within (inl ends) = inl (cond-true (ends_line e t) _ _ ends)
+    at LinePlace.space (inl ends) = inl (cond-true (ends_line e t) _ _ ends)
     at LinePlace.note (inl ends) = inl (cond-true (ends_line e t) _ _ ends)
     at LinePlace.line (inr apart) =
         inr (cond-false (ends_line e t) _ _ apart
@@ -81,6 +89,10 @@ end_next o p e t end = at p (cases_Bool (ends_line e t))
     at LinePlace.within (inr apart) =
         inr (cond-false (ends_line e t) _ _ apart
         ∙ ap (next_within o) (eqb-true e carriage_return (return_of e t end apart)))
+    at LinePlace.space (inr apart) =
+        inr (cond-false (ends_line e t) _ _ apart
+        ∙ ap (λ c. if o.enabled_inline_comment && is_comment_mark c then LinePlace.note else next_within o c)
+        (eqb-true e carriage_return (return_of e t end apart)) ∙ space_return o)
     at LinePlace.note (inr apart) =
         inr (cond-false (ends_line e t) _ _ apart ∙ cond-true (is_line_end e) _ _ end)
 

@@ -1,32 +1,25 @@
--- A value written in a quote, and the quote in which an old one stands.
+-- The quote in which an old value stands.
 use Rattle.std.proofs.Common.{◌≡◌, ◌≢◌, ◌∙◌, inl, inr, ℕ, Bool, true, false, not, ◌&&◌, ◌||◌, eqb, [], ◌∷◌}
 use Rattle.std.proofs.Common.{◌++◌, refl, sym, ap, subst, append_assoc, append-nil, eq-eqb, eqb-true, ne_eqb}
 use Rattle.std.proofs.Common.{Some, None}
 use Rattle.std.proofs.lemmas.Bool.{and_from, and_left, and_parts, and_right, both_ways, cases_Bool}
-use Rattle.std.proofs.lemmas.Bool.{cond-false, cond-true, false_from_ne_true, or_cases, or_left, or_parts}
+use Rattle.std.proofs.lemmas.Bool.{cond-false, cond-true, false_from_ne_true, false≢true, or_cases, or_left}
+use Rattle.std.proofs.lemmas.Bool.{or_parts}
 use Rattle.std.proofs.lemmas.List.{append_cancel_right}
 use Rattle.std.proofs.lemmas.Option.{cond_some}
 use Rattle.std.specs.Char.{is_digit}
-use Rattle.std.specs.List.{list_all}
-use Rattle.ini_text.specs.Options.Backslashes.{begins_escape, is_special}
+use Rattle.ini_text.specs.Options.Backslashes.{Backslash, begins_escape, is_special}
 use Rattle.ini_text.specs.Options.ReadOptions.{backslash_of}
 use Rattle.ini_text.specs.declared.option.ParseOption.{ParseOption}
-use Rattle.ini_text.specs.declared.write.policy.EscapePolicy.{EscapePolicy}
 use Rattle.ini_text.specs.Grammar.CharacterKinds.{backslash, is_inline_white, is_quote_mark, plus}
-use Rattle.ini_text.specs.Grammar.CharacterKinds.{line_feed}
 use Rattle.ini_text.specs.Grammar.CharacterKinds.{BeginsWithNo}
 use Rattle.ini_text.specs.Grammar.EscapeSequences.{EscapeSequence, spelled}
-use Rattle.ini_text.specs.Grammar.Lines.{BeginsPlain, Line, Quoted, plain_value}
+use Rattle.ini_text.specs.Grammar.Lines.{Line, LineText, Quoted}
 use Rattle.ini_text.specs.Grammar.Places.{OwnLines}
-use Rattle.ini_text.specs.Grammar.Strings.{Closes, Row, Str, plain_ends, quote_ends}
-use Rattle.ini_text.specs.Escaping.EscapedTexts.{escaped}
+use Rattle.ini_text.specs.Grammar.Strings.{Row, Str, quote_ends}
 use Rattle.ini.specs.Texts.{Text}
 use Rattle.ini_edit.specs.Inside.Quotes.{IsOwnSource, IsBetweenQuoteMarks, after_quote_mark}
-use Rattle.ini_edit.specs.Quotes.{IsQuoteFor, KeepsQuote, StandsInQuotes, has_quote_mark, written_in}
-use Rattle.ini_edit.proofs.PadLemmas.{drop_white, white_row}
-use Rattle.ini_edit.specs.Writable.{IsWritableValue}
-use Rattle.ini_edit.proofs.WrittenLemmas.{IsReadAsWritten, read_as_written}
-use Rattle.ini_edit.proofs.ValueLemmas.{IsSourceOf, bare_line, bare_source, bare_starts, closes_no_mark}
+use Rattle.ini_edit.specs.Quotes.{KeepsQuote, StandsInQuotes, has_quote_mark}
 
 -- there are two marks
 of_mark : (P : ℕ → Type 0) → P 0x22 → P 0x27 → (m : ℕ) → is_quote_mark m ≡ true → P m
@@ -47,71 +40,6 @@ mark_no_backslash = of_mark (λ m. eqb backslash m ≡ false) refl refl
 pub white_no_mark : (c : ℕ) → is_inline_white c ≡ true → is_quote_mark c ≡ false
 white_no_mark c h =
     false_from_ne_true (is_quote_mark c) (λ q. both_ways (is_inline_white c) (mark_no_white c q) h)
-
-module _ {o : ParseOption} {policy : EscapePolicy} {value : Text}
-    (writable : IsWritableValue o policy value) where
-  abbrev is : IsReadAsWritten o policy value
-  is = read_as_written writable
-
-  -- the value in a mark that it doesn't have
-  quoted_source : (m : ℕ) → o.enabled_quote ≡ true → is_quote_mark m ≡ true → has_quote_mark value m ≡ false
-      → IsSourceOf o (written_in policy (m ∷ []) value) value
-  quoted_source m on mark none = record {
-    line = λ w pad r white white_pad h. record {
-      lead = w;
-      line = written_in policy (m ∷ []) value ++ pad;
-      whole = refl;
-      is_lead = record { white = white; ends = mark_no_white m mark };
-      is_line =
-          subst (Line o true (written_in policy (m ∷ []) value ++ pad) r) (given pad white_pad)
-          (Line.line part (unmarked pad r white_pad h) (Str.closed (white_row pad white_pad) h));
-    };
-    is_trimmed = is.is_trimmed;
-  }
-    where
-      string : Str (backslash_of o) (quote_ends m) (escaped policy value) (m ∷ []) value
-      string = Str.closed (is.quoted m none) (or_left (eqb m m) false (eq-eqb m m refl))
-
-      part : Quoted o (written_in policy (m ∷ []) value) (value ++ []) true
-      part = Quoted.part on mark string Quoted.none
-
-      given : (pad : Text) → list_all is_inline_white pad ≡ true
-          → (value ++ []) ++ plain_value true true pad ≡ value
-      given pad white =
-          ap (λ z. (value ++ []) ++ z) (drop_white pad white) ∙ append-nil (value ++ []) ∙ append-nil value
-
-      unmarked : (pad r : Text) → list_all is_inline_white pad ≡ true → Closes plain_ends r
-          → BeginsPlain o (pad ++ r)
-      unmarked [] r white h = λ _. closes_no_mark r h
-      unmarked (c ∷ pad) r white h =
-          λ _. white_no_mark c (and_parts (is_inline_white c) (list_all is_inline_white pad) white).0
-
-  pub source_in : {quote : Text} → IsQuoteFor o value quote
-      → IsSourceOf o (written_in policy quote value) value
-  source_in IsQuoteFor.empty =
-      subst (λ z. IsSourceOf o z value) (sym (append-nil (escaped policy value))) (bare_source writable)
-  source_in (IsQuoteFor.mark {m} on mark none) = quoted_source m on mark none
-
-  pub starts_in : {quote : Text} → IsQuoteFor o value quote
-      → BeginsWithNo is_inline_white (written_in policy quote value)
-  starts_in IsQuoteFor.empty =
-      subst (BeginsWithNo is_inline_white) (sym (append-nil (escaped policy value))) (bare_starts writable)
-  starts_in (IsQuoteFor.mark {m} on mark none) =
-      false_from_ne_true (is_inline_white m) (λ white. both_ways (is_quote_mark m) (white_no_mark m white) mark)
-
-  -- its lines are the value's own before a line end
-  pub lines_in : {quote : Text} → IsQuoteFor o value quote
-      → OwnLines o (written_in policy quote value) (line_feed ∷ [])
-  unfolding quoted_source
-  lines_in IsQuoteFor.empty = bare_line (line_feed ∷ []) refl writable
-  lines_in (IsQuoteFor.mark {m} on mark none) =
-      subst (λ s. OwnLines o s (line_feed ∷ [])) (append-nil (written_in policy (m ∷ []) value))
-      (OwnLines.first ((quoted_source m on mark none).line [] [] (line_feed ∷ []) refl refl refl).is_line)
-
-pub quote_for : {o : ParseOption} {raw_value value quote : Text} → KeepsQuote o raw_value value quote
-    → IsQuoteFor o value quote
-quote_for (KeepsQuote.kept stands none) = IsQuoteFor.mark stands.on stands.mark none
-quote_for (KeepsQuote.none all) = IsQuoteFor.empty
 
 -- what follows the mark that ends a row of pieces
 module _ (o : ParseOption) (m : ℕ) (mark : is_quote_mark m ≡ true) where
@@ -174,7 +102,7 @@ module _ (o : ParseOption) (m : ℕ) (mark : is_quote_mark m ≡ true) where
   pub after_row : {s v : Text} → Row (backslash_of o) (quote_ends m) s v → (t : Text)
       → after_quote_mark o m false (s ++ m ∷ t) ≡ Some t
   after_row Row.none t = at_mark t
-  after_row (Row.raw {c} {s} n ends row) t =
+  after_row (Row.raw {c} {s} n ends apart row) t =
       past c (s ++ m ∷ t) (or_parts (eqb c m) false ends).0 n ∙ after_row row t
   after_row (Row.escape {p} {s = s} special piece row) t =
       ap (after_quote_mark o m false) (append_assoc p s (m ∷ t)) ∙ past_escape special piece (s ++ m ∷ t)
@@ -195,6 +123,12 @@ after_more o m taken (c ∷ t) x pad h = elim (cases_Bool (eqb c m && not taken)
       (sym (cond-false (eqb c m && not taken) _ _ on) ∙ h)
 ]
 
+-- a string in quotes is a row
+marked_row : {b : Backslash} {m n : ℕ} {s r v : Text} → Str b (quote_ends m) s (n ∷ r) v
+    → Row b (quote_ends m) s v
+marked_row (Str.closed row h) = row
+marked_row (Str.before_note c row n inside note) = absurd (false≢true note)
+
 -- a value's source that begins with a mark: a row of pieces, up to that mark
 record BeginsPart (o : ParseOption) (m : ℕ) (x : Text) : Type 0 where
   pub content : Text
@@ -203,15 +137,15 @@ record BeginsPart (o : ParseOption) (m : ℕ) (x : Text) : Type 0 where
   pub row : Row (backslash_of o) (quote_ends m) content given
   pub whole : x ≡ content ++ m ∷ following
 
-line_part : {o : ParseOption} {first : Bool} {l r v : Text} → o.enabled_quote ≡ true → Line o first l r v
+line_part : {o : ParseOption} {first : Bool} {l r v : Text} → o.enabled_quote ≡ true → LineText o first l r v
     → (m : ℕ) (x z after : Text) → is_quote_mark m ≡ true → l ++ z ≡ m ∷ x → r ≡ z ++ after
     → BeginsPart o m x
-line_part on (Line.line {p = p} {r = r} Quoted.none plain string) m x z after mark is next =
+line_part on (LineText.text {p = p} {r = r} Quoted.none plain string) m x z after mark is next =
     let begins : p ++ r ≡ m ∷ (x ++ after) =
     ap (λ y. p ++ y) next ∙ sym (append_assoc p z after) ∙ ap (λ y. y ++ after) is in
     let no : is_quote_mark m ≡ false = subst (BeginsWithNo is_quote_mark) begins (plain on) in
     absurd (both_ways (is_quote_mark m) no mark)
-line_part {o} on (Line.line {p = p} (Quoted.part {m = n} {s} {v} {q} _ _ (Str.closed row _) _) _ _)
+line_part {o} on (LineText.text {p = p} (Quoted.part {m = n} {s} {v} {q} _ _ string _) _ _)
     m x z after mark is next =
     let whole : n ∷ ((s ++ n ∷ q) ++ (p ++ z)) ≡ m ∷ x =
     ap (λ y. n ∷ y) (sym (append_assoc (s ++ n ∷ q) p z)) ∙ is in
@@ -221,7 +155,7 @@ line_part {o} on (Line.line {p = p} (Quoted.part {m = n} {s} {v} {q} _ _ (Str.cl
       content = s;
       given = v;
       following = q ++ (p ++ z);
-      row = subst (λ y. Row (backslash_of o) (quote_ends y) s v) same row;
+      row = subst (λ y. Row (backslash_of o) (quote_ends y) s v) same (marked_row string);
       whole = sym tails ∙ append_assoc s (n ∷ q) (p ++ z) ∙ ap (λ y. s ++ y ∷ (q ++ (p ++ z))) same;
     }
 
@@ -230,8 +164,10 @@ own_part : {o : ParseOption} {raw_value r : Text} → o.enabled_quote ≡ true �
     → is_quote_mark m ≡ true → raw_value ≡ m ∷ x → BeginsPart o m x
 own_part on (OwnLines.first {l} {r} one) m x mark is =
     line_part on one m x [] r mark (append-nil l ∙ is) refl
-own_part on (OwnLines.more {l} {e} {t} {r} one ends more) m x mark is =
-    line_part on one m x (e ++ t) r mark is (sym (append_assoc e t r))
+own_part on (OwnLines.more {e = e} {t} {r} (Line.line {t = l} {n} front tail) ends more) m x mark is =
+    let whole : l ++ (n ++ (e ++ t)) ≡ (l ++ n) ++ (e ++ t) = simp append_assoc in
+    let next : n ++ (e ++ (t ++ r)) ≡ (n ++ (e ++ t)) ++ r = simp append_assoc in
+    line_part on front m x (n ++ (e ++ t)) r mark (whole ∙ is) next
 
 -- a source that stands between two marks is one quoted part, and each such part stands so
 pub part_between : {o : ParseOption} {raw_value : Text} {m : ℕ} → o.enabled_quote ≡ true
@@ -262,7 +198,7 @@ part_between {o} {raw_value} {m} on source between =
 
 ends_string : (o : ParseOption) {m : ℕ} {s r v : Text} → is_quote_mark m ≡ true
     → Str (backslash_of o) (quote_ends m) s (m ∷ r) v → after_quote_mark o m false (s ++ m ∷ []) ≡ Some []
-ends_string o {m = m} mark (Str.closed row closes) = after_row o m mark row []
+ends_string o {m = m} mark string = after_row o m mark (marked_row string) []
 
 pub between_part : {o : ParseOption} {raw_value : Text} {m : ℕ} → StandsInQuotes o raw_value m
     → IsBetweenQuoteMarks o raw_value m

@@ -1,12 +1,14 @@
 -- What stays of a section that is taken out, and the line end before it, as they are put.
 use Rattle.std.proofs.Common.{◌≡◌, ◌≢◌, ◌∙◌, ◌&&◌, ◌||◌, ℕ, Bool, true, false, cond, not, List, [], ◌∷◌}
 use Rattle.std.proofs.Common.{◌++◌, ap, append-nil, inl, inr, refl, sym}
+use Rattle.std.specs.Prelude.{is_some}
 use Rattle.std.proofs.lemmas.Bool.{and_parts, both_ways, false≢true, not-true, or_cases, or_left}
 use Rattle.ini_text.specs.Grammar.CharacterKinds.{BeginsWith, BeginsWithNo, is_blank, is_comment_mark}
 use Rattle.ini_text.specs.Grammar.CharacterKinds.{is_line_end, is_line_feed}
-use Rattle.ini_text.specs.Grammar.Places.{Stretches, pair_source, value_source}
+use Rattle.ini_text.specs.Grammar.Places.{Stretches, after_key_source, pair_source, separator_text}
+use Rattle.ini_text.specs.Grammar.Places.{value_source}
 use Rattle.ini_text.specs.Grammar.Positions.{last_or}
-use Rattle.ini_text.specs.Inside.PlainTests.{begins}
+use Rattle.ini_text.specs.Grammar.CharacterKinds.{begins}
 use Rattle.ini_text.specs.declared.option.ParseOption.{ParseOption}
 use Rattle.ini_text.proofs.GrammarLemmas.KindLemmas.{comment_mark-apart}
 use Rattle.ini_text.proofs.LawLemmas.PieceLemmas.{last_or-append}
@@ -22,6 +24,7 @@ use Rattle.ini_edit.specs.Sources.{SectionPiece, joined}
 use Rattle.ini_edit.proofs.DeletedLinesLemmas.{IsLineEnd}
 use Rattle.ini_edit.proofs.GapPartLemmas.{gap_nothing}
 use Rattle.ini_edit.proofs.PairEndedLemmas.{value_end}
+use Rattle.ini_edit.proofs.PairViewLemmas.{goes_on}
 use Rattle.ini_edit.proofs.HeaderLemmas.{EmptyOrHeader, header_follows}
 use Rattle.ini_edit.proofs.SectionRestLemmas.{Rest, rest_at_end, rest_of_next}
 use Rattle.ini_edit.proofs.SectionTakenLemmas.{AreLike, IsFeed}
@@ -136,8 +139,11 @@ mark_no_blank [] h = refl
 mark_no_blank (c ∷ x) h = (comment_mark-apart c h).0
 
 pub pair_line_end : {o : ParseOption} {c : ℕ} {p : Stretches} {key value y : Text}
-    → o.enabled_indented_mutiline_value ≡ true → y ≢ [] → AreSpans o c (pair p key value ∷ []) y
-    → is_line_end (last_or c (pair_source p)) ≡ true
-pair_line_end {c = c} {p} on some (AreInPlace.more (IsSpan.is_pair h) AreInPlace.none) =
-    ap is_line_end (last_or-append c p.key (p.separator ∷ value_source p))
-    ∙ value_end p.separator on h.gives some
+    → (o.enabled_indented_mutiline_value && is_some p.separator) ≡ true → y ≢ []
+    → AreSpans o c (pair p key value ∷ []) y → is_line_end (last_or c (pair_source p)) ≡ true
+pair_line_end {o} {c} {p} multiline some (AreInPlace.more (IsSpan.is_pair h) AreInPlace.none) =
+    let separator = separator_text p.separator in
+    let on = (and_parts o.enabled_indented_mutiline_value (is_some p.separator) multiline).0 in
+    ap is_line_end (last_or-append c p.key (after_key_source p)
+    ∙ last_or-append (last_or c p.key) separator (value_source p))
+    ∙ value_end (last_or (last_or c p.key) separator) on (goes_on h multiline).gives some

@@ -1,25 +1,29 @@
 -- A new section put after the sections of a text: they are those of a text.
 use Rattle.std.proofs.Common.{◌≡◌, ◌≢◌, ◌∙◌, ◌==◌, ◌&&◌, ℕ, Bool, true, false, cond, not, List, [], ◌∷◌}
-use Rattle.std.proofs.Common.{◌++◌, ap, append_assoc, append-nil, inl, inr, refl, subst, sym}
-use Rattle.std.proofs.lemmas.Bool.{and_from, cases_Bool, cond-false, cond-true, false≢true}
-use Rattle.ini_text.specs.Grammar.CharacterKinds.{BeginsWith, BeginsWithNo, is_line_end, is_line_feed}
-use Rattle.ini_text.specs.Grammar.CharacterKinds.{line_feed, open_bracket}
+use Rattle.std.proofs.Common.{◌++◌, ap, append_assoc, append-nil, arith, inl, inr, length, refl, subst, sym}
+use Rattle.std.proofs.lemmas.Bool.{and_from, and_parts, cases_Bool, cond-false, cond-true, false≢true}
+use Rattle.std.specs.Prelude.{is_some}
+use Rattle.ini_text.specs.Grammar.CharacterKinds.{BeginsWith, BeginsWithNo, is_comment_mark, is_line_end}
+use Rattle.ini_text.specs.Grammar.CharacterKinds.{is_line_feed, line_feed, open_bracket}
 use Rattle.ini_text.specs.Grammar.Pieces.{pieces_text}
-use Rattle.ini_text.specs.Grammar.Places.{Stretches, pair_source, value_source}
+use Rattle.ini_text.specs.Grammar.Places.{Stretches, after_key_source, pair_source}
 use Rattle.ini_text.specs.Grammar.Positions.{last_or}
 use Rattle.ini_text.specs.Options.WriteOptions.{line_end}
 use Rattle.ini_text.specs.Parsing.Fronts.{front_of}
 use Rattle.ini_text.specs.declared.option.ParseOption.{ParseOption}
 use Rattle.ini_text.specs.declared.write.option.LineSeparator.{LineSeparator}
+use Rattle.ini_text.proofs.LawLemmas.PieceLemmas.{last_or-append}
+use Rattle.ini_text.proofs.ReaderLemmas.KeyReaderLemmas.{KeyFront-some}
 use Rattle.ini_text.proofs.StringLemmas.FrontLemmas.{front_is}
 use Rattle.ini.specs.Texts.{Text}
 use Rattle.ini_edit.specs.Inside.SourceEnds.{put_after_kept}
-use Rattle.ini_edit.specs.Inside.Spans.{AreSections, AreSpans, IsGap, IsPair, Span}
+use Rattle.ini_edit.specs.Inside.InPlace.{AreInPlace}
+use Rattle.ini_edit.specs.Inside.Spans.{AreSections, AreSpans, IsGap, IsPair, IsSpan, Span}
 use Rattle.ini_edit.specs.Inside.Spans.{gap, opening}
 use Rattle.ini_edit.specs.Inside.Spans.{pair, pairs_spans, section_spans, sections_spans, span_source}
 use Rattle.ini_edit.specs.Places.{Follows}
 use Rattle.ini_edit.specs.SourceEdits.{with_pairs}
-use Rattle.ini_edit.specs.SourceEditsAdd.{closed_value}
+use Rattle.ini_edit.specs.SourceEditsAdd.{closed, closed_word}
 use Rattle.ini_edit.specs.SourceEditsDelete.{with_rest}
 use Rattle.ini_edit.specs.SourceEditsSections.{ended_for_section, ends_empty, is_ended_for, is_pair_ended}
 use Rattle.ini_edit.specs.SourceEditsSections.{with_last_closed}
@@ -27,15 +31,18 @@ use Rattle.ini_edit.specs.SourceLines.{is_empty}
 use Rattle.ini_edit.specs.SourcePlaces.{Place, gap_of, last_before_gap, last_before_section, last_changed}
 use Rattle.ini_edit.specs.SourcePlaces.{last_gap}
 use Rattle.ini_edit.specs.SourcePlaces.{with_raw_value}
-use Rattle.ini_edit.specs.Sources.{PairPiece, SectionPiece, joined, section_text}
+use Rattle.ini_edit.specs.Sources.{PairPiece, SectionPiece, has_separator, is_multiline, joined}
+use Rattle.ini_edit.specs.Sources.{section_text}
 use Rattle.ini_edit.proofs.AddedSpanLemmas.{feed_of, gap_either, kept_ended, spans_ended, spans_headed}
 use Rattle.ini_edit.proofs.AddedSpanLemmas.{spans_kept}
-use Rattle.ini_edit.proofs.GapPartLemmas.{gap_nothing, some_before, some_within}
+use Rattle.ini_edit.proofs.GapPartLemmas.{gap_nothing, some_before}
 use Rattle.ini_edit.proofs.GapLemmas.{gap_join}
 use Rattle.ini_edit.proofs.InPlaceLemmas.{in_place-before, in_place-split, joined-append}
 use Rattle.ini_edit.proofs.EndedGapLemmas.{feed_gap}
 use Rattle.ini_edit.proofs.PairAddedLemmas.{added_there, closed_there, ended_pair, off_not_ended}
-use Rattle.ini_edit.proofs.ClosedPairLemmas.{stays_open}
+use Rattle.ini_edit.proofs.ClosedPairLemmas.{closed_is, closed_key, closed_separator, closed_stretches}
+use Rattle.ini_edit.proofs.ClosedPairLemmas.{key_closing, stays_open}
+use Rattle.ini_edit.proofs.PairViewLemmas.{key_front_of, some_key}
 use Rattle.ini_edit.proofs.SectionBeginLemmas.{bracket_header, bracket_some, has_name, header_begins}
 use Rattle.ini_edit.proofs.SectionBeginLemmas.{name_after}
 use Rattle.ini_edit.proofs.SectionEndLemmas.{LastOf, last_of, put_name, put_nothing, put_one, regroup_last}
@@ -63,7 +70,7 @@ module _ (o : ParseOption) (sep : LineSeparator) (bs : List SectionPiece) (t : S
   l = line_end sep
 
   abbrev closer : PairPiece → PairPiece
-  closer p = with_raw_value (closed_value o p) p
+  closer p = closed o p
 
   abbrev is_empty_there : (text : Text) → Bool → Bool
   is_empty_there text e = ends_empty (text ++ cond e [] l)
@@ -244,7 +251,8 @@ module _ (o : ParseOption) (sep : LineSeparator) (bs : List SectionPiece) (t : S
           | inl empty ↦
               subst (λ k. AreSpans o line_feed ((sections_spans bs ++ []) ++ head ∷ [])
               ((k ++ (lines text e ++ [])) ++ T)) (sym empty)
-              (spans_headed (sections_spans bs ++ []) t.name t.header (last_gap t) ((lines text e ++ []) ++ T)
+              (spans_headed (sections_spans bs ++ []) t.name t.header (last_gap t)
+              ((lines text e ++ []) ++ T)
               first (head_ended empty) (before [] head to_head))
         ]
 
@@ -269,11 +277,17 @@ module _ (o : ParseOption) (sep : LineSeparator) (bs : List SectionPiece) (t : S
         after_is : p.after ≡ last_gap t
         after_is = sym (gap_of-end t.after ps p) ∙ ap (gap_of t.after) (sym has)
 
+        key_there : {c : ℕ} {y : Text} → AreSpans o c (one ∷ []) y → p.stretches.key ≢ []
+        key_there (AreInPlace.more (IsSpan.is_pair is) AreInPlace.none) none =
+            omega (arith, KeyFront-some (key_front_of is) (some_key is), ap length none)
+
         text_there : text ≢ []
         text_there empty =
+            let here = (in_place-split span_source (sections_spans bs ++ xt) (one ∷ [])
+            (before xt one to_pair)).1 in
             some_before (joined span_source xt) (pair_source p.stretches ++ k)
-            (λ none. some_within p.stretches.key p.stretches.separator (value_source p.stretches)
-            (empty_part (pair_source p.stretches) k none))
+            (λ none. key_there here (empty_part p.stretches.key (after_key_source p.stretches)
+            (empty_part (pair_source p.stretches) k none)))
             (sym (append_assoc (joined span_source xt) (pair_source p.stretches) k)
             ∙ ap (λ z. z ++ k) (sym (text_is xt one to_pair)) ∙ sym whole ∙ empty)
 
@@ -301,34 +315,25 @@ module _ (o : ParseOption) (sep : LineSeparator) (bs : List SectionPiece) (t : S
         -- where something is kept, the pair stays
         kept_spans : k ≢ [] → section_spans m ≡ (xt ++ one ∷ []) ++ gap (k ++ (lines text e ++ [])) ∷ []
         kept_spans some =
-            let in_gap = with_gap e (no_empty k some) in
             pair_spans e
-            ∙ ap (λ (q : PairPiece). xt ++ (pair q.stretches q.key q.value ∷ gap q.after ∷ [])) in_gap
-            ∙ ap (λ r. xt ++ (pair (record p.stretches { raw_value = r }) p.key p.value
-            ∷ gap (k ++ (lines text e ++ [])) ∷ [])) (raw_same e)
+            ∙ ap (λ (q : PairPiece). xt ++ (pair q.stretches q.key q.value ∷ gap q.after ∷ []))
+            (with_gap (last_one e) (no_empty k some)
+            ∙ ap (λ (q : PairPiece). record q { after = k ++ (lines text e ++ []) }) (same e))
             ∙ sym (append_assoc xt (one ∷ []) (gap (k ++ (lines text e ++ [])) ∷ []))
           where
             no_empty : (k : Text) → k ≢ [] → is_empty k ≡ false
             no_empty [] some = absurd (some refl)
             no_empty (c ∷ k) some = refl
 
-            with_gap : (e : Bool) → is_empty k ≡ false
-                → put_last e ≡ record p {
-                  stretches = record p.stretches {
-                    raw_value = cond e p.stretches.raw_value (closed_value o p);
-                  };
-                  after = k ++ (lines text e ++ []);
-                }
-            with_gap true other =
-                cond-false (o.enabled_indented_mutiline_value && is_empty k) _ _
-                (and_no (o.enabled_indented_mutiline_value) other)
-            with_gap false other =
-                cond-false (o.enabled_indented_mutiline_value && is_empty k) _ _
-                (and_no (o.enabled_indented_mutiline_value) other)
+            with_gap : (q : PairPiece) → is_empty k ≡ false
+                → with_rest o (lines text e) [] (record q { after = k })
+                ≡ record q { after = k ++ (lines text e ++ []) }
+            with_gap q other =
+                cond-false (is_multiline o q && is_empty k) _ _ (and_no (is_multiline o q) other)
 
-            raw_same : (e : Bool) → cond e p.stretches.raw_value (closed_value o p) ≡ p.stretches.raw_value
-            raw_same true = refl
-            raw_same false =
+            same : (e : Bool) → last_one e ≡ p
+            same true = refl
+            same false =
                 stays_open o p (and_no (is_empty p.stretches.trailing_lines)
                 (ap is_empty (after_is ∙ cut.whole) ∙ no_empty (k ++ g) (some_front k g some)))
 
@@ -362,78 +367,110 @@ module _ (o : ParseOption) (sep : LineSeparator) (bs : List SectionPiece) (t : S
               subst (AreSpans o line_feed ((sections_spans bs ++ xt) ++ one ∷ [])) (sym after_is)
               (before xt one to_pair)
 
-          put_pair : (q : Stretches) (new : Text) → q.key ≡ p.stretches.key
-              → q.separator ≡ p.stretches.separator
+          put_pair : (q : Stretches) (new more : Text) → q.key ≡ p.stretches.key ++ more
               → section_spans m ≡ xt ++ (pair q p.key p.value ∷ gap new ∷ [])
               → ((c : ℕ) → IsPair o c p.stretches p.key p.value p.after
               → IsPair o c q p.key p.value (new ++ T))
               → ((c : ℕ) → IsGap o c new T) → AreSections o (bs ++ m ∷ n ∷ [])
-          put_pair q new same separates spans pair_there gap_there =
+          put_pair q new more same spans pair_there gap_there =
               put_there m (made_name k text e)
               (subst (λ l. AreSpans o line_feed l [])
               (sym (ap (λ l. sections_spans bs ++ (l ++ section_spans n)) spans
               ∙ regroup_end (sections_spans bs) xt (pair q p.key p.value) (gap new) (section_spans n)))
-              (spans_ended (sections_spans bs ++ xt) p.stretches q p.key p.value new (section_spans n) same
-              separates before_pair pair_there gap_there later))
+              (spans_ended (sections_spans bs ++ xt) p.stretches q p.key p.value new (section_spans n) more
+              same before_pair pair_there gap_there later))
 
-          -- values in one line
-          line_put : o.enabled_indented_mutiline_value ≡ false → AreSections o (bs ++ m ∷ n ∷ [])
+          -- a pair in one line
+          line_put : is_multiline o p ≡ false → AreSections o (bs ++ m ∷ n ∷ [])
           line_put off =
-              let nothing = closes_end off in
-              let open_so : e ≡ false = sym ended_is ∙ off_not_ended o p off nothing in
-              let q = closer p in
+              let column : BeginsWith is_comment_mark p.after
+              → is_line_feed (last_or (last_or line_feed (joined span_source (sections_spans bs ++ xt)))
+              (pair_source p.stretches)) ≡ true = λ mark.
+              let ys = sections_spans bs ++ xt in
+              let c = last_or line_feed (joined span_source ys) in
+              let last_is : before_gap ≡ last_or c (pair_source p.stretches) =
+              gap_is xt one to_pair ∙ ap (last_or line_feed) (joined-append span_source ys (one ∷ []))
+              ∙ last_or-append line_feed (joined span_source ys) (pair_source p.stretches ++ [])
+              ∙ ap (last_or c) (append-nil (pair_source p.stretches)) in
+              ap is_line_feed (sym last_is) ∙ ap (λ k. is_line_feed (last_or before_gap k)) (sym none)
+              ∙ cut.column (subst (BeginsWith is_comment_mark) gap_same mark) in
+              let end = pair_closes off no_end column
+              (in_place-split span_source (sections_spans bs ++ xt) (one ∷ []) before_pair).1 in
+              let open_so : e ≡ false = sym ended_is ∙ off_not_ended o p off end.1 in
               let rest = cond (is_empty_there text e) [] l in
+              let shut : PairPiece = record p { stretches = closed_stretches o p.stretches } in
               let spans : section_spans m
-              ≡ xt ++ (pair q.stretches p.key p.value ∷ gap ((l ++ rest) ++ []) ∷ []) =
+              ≡ xt ++ (pair shut.stretches p.key p.value ∷ gap ((l ++ rest) ++ []) ∷ []) =
               pair_spans e
               ∙ ap (λ (q : PairPiece). xt ++ (pair q.stretches q.key q.value ∷ gap q.after ∷ []))
-              (cond-false (o.enabled_indented_mutiline_value && is_empty k) _ _
-              (ap (λ b. b && is_empty k) off))
-              ∙ ap (λ e'. xt ++ (pair (last_one e').stretches (last_one e').key (last_one e').value
-              ∷ gap (k ++ ((cond e' [] l ++ rest) ++ [])) ∷ [])) open_so
-              ∙ ap (λ k. xt ++ (pair q.stretches p.key p.value ∷ gap (k ++ ((l ++ rest) ++ [])) ∷ [])) none in
-              put_pair q.stretches ((l ++ rest) ++ []) refl refl spans
-              (λ c h. subst (IsPair o c q.stretches p.key p.value)
+              (ap (λ e'. with_rest o (cond e' [] l ++ rest) [] (record (last_one e') { after = k })) open_so
+              ∙ ap (λ (q : PairPiece). with_rest o (l ++ rest) [] (record q { after = k }))
+              (closed_is o p end.0 end.1)
+              ∙ cond-false (is_multiline o shut && is_empty k) _ _
+              (ap (λ s. (o.enabled_indented_mutiline_value && is_some s) && is_empty k)
+              (closed_separator o p.stretches)
+              ∙ ap (λ b. b && is_empty k) off)
+              ∙ ap (λ k. record shut { after = k ++ ((l ++ rest) ++ []) }) none) in
+              put_pair shut.stretches ((l ++ rest) ++ []) (key_closing o p.stretches)
+              (closed_key o p.stretches) spans
+              (λ c h. subst (IsPair o c shut.stretches p.key p.value)
               (sym (append_assoc (l ++ rest) [] T ∙ append_assoc l rest T))
-              (closed_there sep p (rest ++ T) off no_end h))
+              (closed_there sep p (rest ++ T) off h))
               (λ c. subst (λ t. IsGap o c t T) (sym (append-nil (l ++ rest)))
               (gap_join (feed_gap (feed_of sep)) (gap_either (is_empty_there text e) T (feed_of sep))))
-            where
-              closes_end : o.enabled_indented_mutiline_value ≡ false → p.after ≡ []
-              closes_end off = pair_closes off no_end (in_place-split span_source (sections_spans bs ++ xt)
-                  (one ∷ []) before_pair).1
 
           -- multiline values
-          lines_put : o.enabled_indented_mutiline_value ≡ true → AreSections o (bs ++ m ∷ n ∷ [])
-          lines_put on =
-              let q = with_trailing (p.stretches.trailing_lines ++ lines text e)
-              (record p.stretches { raw_value = cond e p.stretches.raw_value (closed_value o p) }) in
-              let spans : section_spans m ≡ xt ++ (pair q p.key p.value ∷ gap [] ∷ []) =
-              pair_spans e ∙ in_lines e on
-              ∙ ap (λ k. xt ++ (pair q p.key p.value ∷ gap (k ++ []) ∷ [])) none in
-              put_pair q [] refl refl spans
-              (λ c h. added_there sep p on follows some_there e f no_end ended_is h) (λ c. gap_nothing)
+          lines_put : o.enabled_indented_mutiline_value ≡ true → is_multiline o p ≡ true
+              → AreSections o (bs ++ m ∷ n ∷ [])
+          lines_put on long =
+              put_pair (ended_so e).stretches [] [] (key_same e)
+              (pair_spans e
+              ∙ ap (λ (q : PairPiece). xt ++ (pair q.stretches q.key q.value ∷ gap q.after ∷ []))
+              (in_lines e ∙ ap (λ k. record (ended_so e) { after = k ++ [] }) none))
+              (λ c h. added_there sep p on long follows some_there e f no_end ended_is h) (λ c. gap_nothing)
             where
-              in_lines : (e : Bool) → o.enabled_indented_mutiline_value ≡ true
-                  → xt ++ (pair (put_last e).stretches (put_last e).key (put_last e).value
-                  ∷ gap (put_last e).after ∷ [])
-                  ≡ xt ++ (pair (with_trailing (p.stretches.trailing_lines ++ lines text e)
-                  (record p.stretches { raw_value = cond e p.stretches.raw_value (closed_value o p) }))
-                  p.key p.value ∷ gap (k ++ []) ∷ [])
-              in_lines true on =
-                  ap (λ (q : PairPiece). xt ++ (pair q.stretches q.key q.value ∷ gap q.after ∷ []))
-                  (cond-true (o.enabled_indented_mutiline_value && is_empty k) _ _
-                  (and_from o.enabled_indented_mutiline_value (is_empty k) on (ap is_empty none)))
-              in_lines false on =
-                  ap (λ (q : PairPiece). xt ++ (pair q.stretches q.key q.value ∷ gap q.after ∷ []))
-                  (cond-true (o.enabled_indented_mutiline_value && is_empty k) _ _
-                  (and_from o.enabled_indented_mutiline_value (is_empty k) on (ap is_empty none)))
+              has_value : has_separator p ≡ true
+              has_value = (and_parts o.enabled_indented_mutiline_value (has_separator p) long).1
+
+              closed_value : closer p ≡ with_raw_value (closed_word o p) p
+              closed_value = cond-true (has_separator p) _ _ has_value
+
+              ended_so : Bool → PairPiece
+              ended_so e' = record {
+                stretches = with_trailing (p.stretches.trailing_lines ++ lines text e)
+                    (cond e' p (closer p)).stretches;
+                key = p.key;
+                value = p.value;
+                after = k ++ [];
+              }
+
+              key_same : (e' : Bool) → (cond e' p (closer p)).stretches.key ≡ p.stretches.key ++ []
+              key_same true = sym (append-nil p.stretches.key)
+              key_same false = ap (λ (q : PairPiece). q.stretches.key) closed_value
+                  ∙ sym (append-nil p.stretches.key)
+
+              takes : (is_multiline o p && is_empty k) ≡ true
+              takes = and_from (is_multiline o p) (is_empty k) long (ap is_empty none)
+
+              in_lines : (e' : Bool)
+                  → with_rest o (lines text e) [] (record (cond e' p (closer p)) { after = k }) ≡ ended_so e'
+              in_lines true = cond-true (is_multiline o p && is_empty k) _ _ takes
+              in_lines false =
+                  ap (λ (q : PairPiece). with_rest o (lines text e) [] (record q { after = k })) closed_value
+                  ∙ cond-true (is_multiline o p && is_empty k) _ _ takes
+                  ∙ ap (λ (q : PairPiece). record {
+                    stretches = with_trailing (p.stretches.trailing_lines ++ lines text e) q.stretches;
+                    key = p.key;
+                    value = p.value;
+                    after = k ++ [];
+                  }) (sym closed_value)
 
         pair_put : AreSections o (bs ++ m ∷ n ∷ [])
         pair_put = elim (some_or k) [
           | inr some ↦ kept_put some
-          | inl none ↦ elim (cases_Bool o.enabled_indented_mutiline_value) [
-            | inl on ↦ lines_put none on
+          | inl none ↦ elim (cases_Bool (is_multiline o p)) [
+            | inl long ↦
+                lines_put none (and_parts o.enabled_indented_mutiline_value (has_separator p) long).0 long
             | inr off ↦ line_put none off
           ]
         ]

@@ -24,16 +24,17 @@ use Rattle.ini_edit.specs.Inside.SourceEnds.{MakesPairs, end_put_at, end_put_las
 use Rattle.ini_edit.specs.Inside.Spans.{AreSections, AreSpans, IsGap, IsSpan, gap, section_spans}
 use Rattle.ini_edit.specs.Inside.Spans.{sections_spans}
 use Rattle.ini_edit.specs.Inside.Spans.{span_source}
-use Rattle.ini_edit.specs.SourceEditsAdd.{Maker, closed_value}
+use Rattle.ini_edit.specs.SourceEditsAdd.{Maker, closed}
 use Rattle.ini_edit.specs.SourceEditsSections.{after_new_section, ended_for_section, is_ended_for}
 use Rattle.ini_edit.specs.SourceEditsSections.{lines_between}
 use Rattle.ini_edit.specs.SourceEditsSections.{new_section, section_put, with_last_closed}
 use Rattle.ini_edit.specs.SourcePlaces.{Place, last_before_gap, last_before_section, last_changed, last_gap}
-use Rattle.ini_edit.specs.SourcePlaces.{last_place, one_on, with_raw_value}
+use Rattle.ini_edit.specs.SourcePlaces.{last_place, one_on}
 use Rattle.ini_edit.specs.Sources.{PairPiece, SectionPiece, given_pair, given_section, section_text}
 use Rattle.ini_edit.specs.Sources.{sections_text}
 use Rattle.ini_edit.specs.declared.source.pair.ends.NewEnd.{NewEnd}
 use Rattle.ini_edit.specs.declared.source.written.NewPair.{NewPair}
+use Rattle.ini_edit.proofs.ClosedPairLemmas.{closed_same}
 use Rattle.ini_edit.proofs.AddedSpanLemmas.{feed_of}
 use Rattle.ini_edit.proofs.InPlaceLemmas.{in_place-split}
 use Rattle.ini_edit.proofs.NewSectionSpanLemmas.{bare_section, pair_section, rest_after_feed}
@@ -59,7 +60,8 @@ last_at xs n x last is =
 -- the place of the last
 last_there : {A : Type 0} (x : A) (xs before : List A) (y : A) → x ∷ xs ≡ before ++ y ∷ []
     → last_place x xs ≡ record { before = before; here = y; after = [] }
-last_there x [] [] y is = let same : x ≡ y = cc in ap (λ y. record { before = []; here = y; after = [] }) same
+last_there x [] [] y is = let same : x ≡ y = cc in ap
+    (λ y. record { before = []; here = y; after = [] }) same
 last_there x [] (z ∷ before) y is =
     absurd (let none : [] ≡ before ++ y ∷ [] = cc in some_last before y (sym none))
 last_there x (w ∷ xs) [] y is = absurd (let no : w ∷ xs ≡ [] = cc in cc)
@@ -234,7 +236,8 @@ ended_given o l s g =
     at : (b : Bool) → given_section (with_last_closed o b s) ≡ given_section s
     at true =
         ap (λ ps. (s.name, ps))
-        (changed_given (λ p. with_raw_value (closed_value o p) p) (λ p. refl) s.pairs)
+        (changed_given (closed o) (λ p. ap (λ k. (k, (closed o p).value)) (closed_same o p).0
+        ∙ ap (λ v. (p.key, v)) (closed_same o p).1) s.pairs)
     at false = refl
 
 module _ (o : ParseOption) (policy : EscapePolicy) (l name : Text) (make : Option Maker) where

@@ -3,14 +3,14 @@ use Rattle.std.proofs.Common.{◌≡◌, ◌≢◌, ◌∙◌, ◌==◌, ◌&&�
 use Rattle.std.proofs.Common.{◌++◌, None, Option, Some, ap, append_assoc, eqb-true, inl, inr, refl}
 use Rattle.std.proofs.Common.{subst, sym}
 use Rattle.std.proofs.lemmas.Bool.{and_from, and_parts, both_ways, cases_Bool}
-use Rattle.std.proofs.lemmas.Bool.{false≢true}
+use Rattle.std.proofs.lemmas.Bool.{false_from_ne_true, false≢true}
 use Rattle.std.proofs.lemmas.List.Folds.{list_all-append}
 use Rattle.std.specs.List.{list_all}
 use Rattle.std.specs.Prelude.{◌⊎◌, is_some}
-use Rattle.ini_text.specs.Grammar.CharacterKinds.{BeginsWith, is_blank}
+use Rattle.ini_text.specs.Grammar.CharacterKinds.{BeginsWith, BeginsWithNo, is_blank, is_comment_mark}
 use Rattle.ini_text.specs.Grammar.CharacterKinds.{is_line_end, open_bracket}
 use Rattle.ini_text.specs.declared.option.ParseOption.{ParseOption}
-use Rattle.ini_text.proofs.GrammarLemmas.KindLemmas.{line_end_no_blank}
+use Rattle.ini_text.proofs.GrammarLemmas.KindLemmas.{comment_mark-apart, line_end_no_blank}
 use Rattle.ini.specs.Texts.{Text}
 use Rattle.ini_edit.specs.Inside.InPlace.{AreInPlace}
 use Rattle.ini_edit.specs.Inside.Spans.{AreSpans, BeginGeneral, IsSpan, Span, gap}
@@ -78,15 +78,27 @@ bracket_front [] [] y blank b = absurd (false≢true (sym b))
 bracket_front [] (c ∷ h) y blank b = record {
   some = subst (λ c. not (is_line_end c) ≡ true) (sym (eqb-true c open_bracket b)) refl;
   bracket = inr refl;
+  note = inr refl;
 }
 bracket_front (c ∷ w) h y blank b = record {
   some = at (cases_Bool (is_line_end c)) (and_parts (is_blank c) (list_all is_blank w) blank).0;
   bracket = inr refl;
+  note = inr refl;
 }
   where
     at : (is_line_end c ≡ true) ⊎ (is_line_end c ≡ false) → is_blank c ≡ true → not (is_line_end c) ≡ true
     at (inl end) is = absurd (both_ways (is_blank c) (line_end_no_blank c end) is)
     at (inr other) is = ap not other
+
+-- and no note
+pub bracket_no_note : (w h y : Text) → list_all is_blank w ≡ true → BeginsWith (λ c. c == open_bracket) h
+    → BeginsWithNo is_comment_mark (w ++ (h ++ y))
+bracket_no_note [] [] y blank b = absurd (false≢true (sym b))
+bracket_no_note [] (c ∷ h) y blank b =
+    subst (λ c. is_comment_mark c ≡ false) (sym (eqb-true c open_bracket b)) refl
+bracket_no_note (c ∷ w) h y blank b =
+    false_from_ne_true (is_comment_mark c) (λ mark. both_ways (is_blank c) (comment_mark-apart c mark).0
+    (and_parts (is_blank c) (list_all is_blank w) blank).0)
 
 pub sections_begin : {o : ParseOption} {c : ℕ} (ss : List SectionPiece) → list_all has_name ss ≡ true
     → AreSpans o c (sections_spans ss) []
@@ -94,7 +106,8 @@ pub sections_begin : {o : ParseOption} {c : ℕ} (ss : List SectionPiece) → li
     × (ss ≢ [] → joined span_source (sections_spans ss) ++ [] ≢ [])
 sections_begin [] has h = (EmptyOrHeader.empty, λ n. absurd (n refl))
 sections_begin (a ∷ more) has h =
-    let b = header_begins a (sections_spans more) (and_parts (has_name a) (list_all has_name more) has).0 h in
+    let b = header_begins a (sections_spans more)
+    (and_parts (has_name a) (list_all has_name more) has).0 h in
     let y = joined span_source ((gap a.after ∷ pairs_spans a.pairs) ++ sections_spans more) in (
       bracket_header a.header y b,
       λ _. subst (λ t. t ≢ []) (sym (append_assoc a.header y [])) (bracket_some a.header (y ++ []) b),

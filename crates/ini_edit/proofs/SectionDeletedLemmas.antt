@@ -7,14 +7,16 @@ use Rattle.std.proofs.lemmas.Bool.{false≢true, or_left}
 use Rattle.std.specs.List.{list_all}
 use Rattle.ini_text.specs.Grammar.CharacterKinds.{BeginsWith, BeginsWithNo, is_blank, is_comment_mark}
 use Rattle.ini_text.specs.Grammar.CharacterKinds.{is_line_end, is_line_feed, line_feed, open_bracket}
-use Rattle.ini_text.specs.Grammar.Places.{pair_source, value_source}
+use Rattle.ini_text.specs.Grammar.Places.{after_key_source, pair_source}
 use Rattle.ini_text.specs.Grammar.Positions.{last_or}
-use Rattle.ini_text.specs.Inside.PlainTests.{begins}
+use Rattle.ini_text.specs.Grammar.CharacterKinds.{begins}
 use Rattle.ini_text.specs.declared.option.ParseOption.{ParseOption}
 use Rattle.ini_text.proofs.LawLemmas.PieceLemmas.{last_or-append}
+use Rattle.ini_text.proofs.ReaderLemmas.LineReaderLemmas.{TextEnds}
 use Rattle.ini_text.proofs.StringLemmas.FrontLemmas.{front_is}
 use Rattle.ini.specs.Texts.{Text}
-use Rattle.ini_edit.specs.Inside.Spans.{AreSections, AreSpans, IsGap, Span, gap}
+use Rattle.ini_edit.specs.Inside.InPlace.{AreInPlace}
+use Rattle.ini_edit.specs.Inside.Spans.{AreSections, AreSpans, IsGap, IsSpan, Span, gap}
 use Rattle.ini_edit.specs.Inside.Spans.{opening, pair, pairs_spans, section_spans, sections_spans}
 use Rattle.ini_edit.specs.Inside.Spans.{span_source}
 use Rattle.ini_edit.specs.Places.{Follows}
@@ -24,19 +26,25 @@ use Rattle.ini_edit.specs.SourceEditsSections.{line_end_before, section_rest, wi
 use Rattle.ini_edit.specs.SourceLines.{indentation_at_end, is_empty, line_end_at_end}
 use Rattle.ini_edit.specs.SourcePlaces.{Place, is_nil, last_before_gap, last_before_section}
 use Rattle.ini_edit.specs.SourcePlaces.{last_gap, with_end}
-use Rattle.ini_edit.specs.Sources.{PairPiece, SectionPiece, joined, section_text}
-use Rattle.ini_edit.proofs.AheadLemmas.{FollowsFront, any_follows}
+use Rattle.ini_edit.specs.Sources.{PairPiece, SectionPiece, has_separator, is_multiline, joined}
+use Rattle.ini_edit.specs.Sources.{section_text}
+use Rattle.ini_edit.proofs.AheadLemmas.{FollowsFront, closes_no_line}
 use Rattle.ini_edit.proofs.CommentLemmas.{begins_with}
 use Rattle.ini_edit.proofs.DeletedLinesLemmas.{IsLineEnd, end_is, end_last}
+use Rattle.ini_edit.proofs.DeletedPairLemmas.{pair_key_some}
 use Rattle.ini_edit.proofs.InPlaceLemmas.{in_place-split, joined-append}
-use Rattle.ini_edit.proofs.GapPartLemmas.{some_before, some_within}
+use Rattle.ini_edit.proofs.GapPartLemmas.{some_before}
+use Rattle.ini_edit.proofs.LineCutLemmas.{text_closes}
+use Rattle.ini_edit.proofs.PairViewLemmas.{one_line}
 use Rattle.ini_edit.proofs.RestPutLemmas.{EndsSo, begins_not, empty_is, feed_kind, goes_after, kind_of}
 use Rattle.ini_edit.proofs.RestPutLemmas.{like_nothing, like_put, mark_no_blank, marked, nil_one}
 use Rattle.ini_edit.proofs.RestPutLemmas.{pair_line_end, put_so, rest_follows, rest_for, rest_nothing}
 use Rattle.ini_edit.proofs.RestPutLemmas.{would_take}
-use Rattle.ini_edit.proofs.SectionBeginLemmas.{begin_without, bracket_front, bracket_some, has_name}
-use Rattle.ini_edit.proofs.SectionBeginLemmas.{header_begins, name_after, names_after, sections_begin}
-use Rattle.ini_edit.proofs.SectionEndLemmas.{LastOf, first_text, last_of, last_through, put_name, put_nothing}
+use Rattle.ini_edit.proofs.SectionBeginLemmas.{begin_without, bracket_front, bracket_no_note, bracket_some}
+use Rattle.ini_edit.proofs.SectionBeginLemmas.{has_name, header_begins, name_after, names_after}
+use Rattle.ini_edit.proofs.SectionBeginLemmas.{sections_begin}
+use Rattle.ini_edit.proofs.SectionEndLemmas.{LastOf, first_text, last_of, last_through, put_name}
+use Rattle.ini_edit.proofs.SectionEndLemmas.{put_nothing}
 use Rattle.ini_edit.proofs.SectionEndLemmas.{put_one, regroup, regroup_last, regroup_lines, regroup_put}
 use Rattle.ini_edit.proofs.SectionEndLemmas.{spans_last, up_to_last}
 use Rattle.ini_edit.proofs.HeaderLemmas.{EmptyOrHeader}
@@ -47,6 +55,10 @@ use Rattle.ini_edit.proofs.SectionTakenLemmas.{section_end, split, with_trailing
 use Rattle.ini_edit.proofs.SourceReadLemmas.{begin-same, pairs_spans-append, sections_spans-append}
 use Rattle.ini_edit.proofs.SourceSpanLemmas.{last_of_gap, spans_to_gap}
 use Rattle.ini_edit.proofs.SourceSpanLemmas.{text_to_gap}
+
+none_within : (s t : Text) → s ++ t ≡ [] → s ≡ []
+none_within [] t none = refl
+none_within (c ∷ s) t none = cc
 
 -- the section s after t, of which k is kept of the last gap, and w isn't
 module _ (o : ParseOption) (bs : List SectionPiece) (t s : SectionPiece) (after : List SectionPiece) where
@@ -130,7 +142,8 @@ module _ (o : ParseOption) (bs : List SectionPiece) (t s : SectionPiece) (after 
           ∙ ap (λ l. sections_spans bs ++ (l ++ (section_spans s ++ zs)))
           (spans_last t ∙ ap (λ l. l ++ gap (last_gap t) ∷ []) is
           ∙ ap (λ g. (xt ++ x ∷ []) ++ gap g ∷ []) cut)
-          ∙ ap (λ l. sections_spans bs ++ (((xt ++ x ∷ []) ++ gap (k ++ w) ∷ []) ++ (l ++ zs))) (spans_last s)
+          ∙ ap (λ l. sections_spans bs ++ (((xt ++ x ∷ []) ++ gap (k ++ w) ∷ []) ++ (l ++ zs)))
+          (spans_last s)
           ∙ regroup (sections_spans bs) xt x (gap (k ++ w)) (gap (last_gap s)) ys zs
 
       abbrev the_fore_end : ℕ
@@ -183,6 +196,10 @@ module _ (o : ParseOption) (bs : List SectionPiece) (t s : SectionPiece) (after 
       front = subst (λ y. FollowsFront [] (w ++ y)) between_is
           (bracket_front w s.header _ kept.blank bracket)
 
+      unmarked : BeginsWithNo is_comment_mark (w ++ the_between)
+      unmarked = subst (λ y. BeginsWithNo is_comment_mark (w ++ y)) between_is
+          (bracket_no_note w s.header _ kept.blank bracket)
+
       stays : Rest o before_last (last_gap s) rest the_following
       stays = rest_for before_last (last_gap s) after header_after.1
           (subst (λ c. IsGap o c (last_gap s) the_following) (sym last_is) parts.last)
@@ -226,7 +243,7 @@ module _ (o : ParseOption) (bs : List SectionPiece) (t s : SectionPiece) (after 
           (subst (λ c. AreLike (rest_at k) (last_or (last_or c k) (lines_at k))) gap_is
           (like_nothing (would_take o k t rest)
           (like_put d (last_or before_last stays.before) rest line_end ends)))
-          (kind_of (goes_after d rest) ends.kind) some front first may header_after.0
+          (kind_of (goes_after d rest) ends.kind) some front unmarked first may header_after.0
 
       put_gap : (new : SectionPiece) → new.name ≡ t.name → (g : Text)
           → section_spans new ≡ (xt ++ x ∷ []) ++ gap g ∷ []
@@ -290,26 +307,48 @@ module _ (o : ParseOption) (bs : List SectionPiece) (t s : SectionPiece) (after 
           ≡ xt ++ (pair q.stretches q.key q.value ∷ gap q.after ∷ [])
       spans_of q = ap (λ l. opening t.name t.header ∷ gap t.after ∷ l) (pairs_spans-append ps (q ∷ []))
 
-      first : span_source x ≡ [] → sections_spans bs ++ xt ≡ []
-      first none = absurd (some_within p.stretches.key p.stretches.separator (value_source p.stretches) none)
+      pair_there : {y : Text} → AreSpans o line_feed ((sections_spans bs ++ xt) ++ x ∷ []) y
+          → AreSpans o (last_or line_feed (joined span_source (sections_spans bs ++ xt))) (x ∷ []) y
+      pair_there h = (in_place-split span_source (sections_spans bs ++ xt) (x ∷ []) h).1
 
-      in_gap : (o.enabled_indented_mutiline_value && is_empty k) ≡ false → AreSections o (bs ++ new ∷ after)
+      first : span_source x ≡ [] → sections_spans bs ++ xt ≡ []
+      first none =
+          absurd (pair_key_some (pair_there (parts xt x to k w cut kept).before)
+          (none_within p.stretches.key (after_key_source p.stretches) none))
+
+      -- no header stands directly after a pair in one line
+      line_apart : {X : Type 0} → is_multiline o p ≡ false → k ≡ [] → X
+      line_apart off none =
+          at (pair_there (parts xt x to k w cut kept).before)
+        where
+          at : {X : Type 0} {c : ℕ} → AreSpans o c (x ∷ []) ((k ++ w) ++ the_between xt x to k w cut kept)
+              → X
+          at (AreInPlace.more (IsSpan.is_pair is) AreInPlace.none) =
+              let y = w ++ the_between xt x to k w cut kept in
+              closes_no_line y (front xt x to k w cut kept).some
+              (text_closes o y (subst (λ z. TextEnds o ((z ++ w) ++ the_between xt x to k w cut kept)) none
+              (one_line is off).1) (unmarked xt x to k w cut kept))
+
+      in_gap : (is_multiline o p && is_empty k) ≡ false → AreSections o (bs ++ new ∷ after)
       in_gap apart =
           let g = k ++ (lines_at k ++ rest_at k) in
           let q : PairPiece = record p { after = g } in
           let with_gap : with_rest o (lines_at k) (rest_at k) (record p { after = k }) ≡ q =
-          cond-false (o.enabled_indented_mutiline_value && is_empty k) _ _ apart in
+          cond-false (is_multiline o p && is_empty k) _ _ apart in
           put_gap xt x to k w cut kept new new_name g
           (ap section_spans new_is ∙ ap (λ q. section_spans (with_pairs t (ps ++ q ∷ []))) with_gap
           ∙ spans_of q ∙ sym (append_assoc xt (x ∷ []) (gap g ∷ [])))
           (gap_deleted xt x to k w cut kept first
-          (λ none. any_follows _ (off o.enabled_indented_mutiline_value apart (ap is_empty none))))
+          (λ none. line_apart (off (is_multiline o p) apart (ap is_empty none)) none))
         where
           off : (b : Bool) → (b && is_empty k) ≡ false → is_empty k ≡ true → b ≡ false
           off true h e = absurd (false≢true (sym h ∙ e))
           off false h e = refl
 
-      module _ (on : o.enabled_indented_mutiline_value ≡ true) (none : k ≡ []) where
+      module _ (goes : is_multiline o p ≡ true) (none : k ≡ []) where
+        on : o.enabled_indented_mutiline_value ≡ true
+        on = (and_parts o.enabled_indented_mutiline_value (has_separator p) goes).0
+
         abbrev tail : Text
         tail = p.stretches.trailing_lines
 
@@ -322,8 +361,8 @@ module _ (o : ParseOption) (bs : List SectionPiece) (t s : SectionPiece) (after 
         lines_spans =
             ap section_spans new_is
             ∙ ap (λ q. section_spans (with_pairs t (ps ++ q ∷ [])))
-            (cond-true (o.enabled_indented_mutiline_value && is_empty k) _ _
-            (and_from o.enabled_indented_mutiline_value (is_empty k) on (ap is_empty none)))
+            (cond-true (is_multiline o p && is_empty k) _ _
+            (and_from (is_multiline o p) (is_empty k) goes (ap is_empty none)))
             ∙ spans_of (with_end (tail ++ lines_at k) (k ++ rest_at k) p)
 
         taken_is : would_take o k t rest ≡ begins is_blank rest
@@ -353,7 +392,7 @@ module _ (o : ParseOption) (bs : List SectionPiece) (t s : SectionPiece) (after 
             ∙ ap (λ t. joined span_source xs ++ t) (append-nil (pair_source p.stretches)))
             ∙ last_or-append line_feed (joined span_source xs) (pair_source p.stretches) in
             ap (λ k. is_line_end (last_or before_gap k)) none ∙ ap is_line_end last
-            ∙ pair_line_end on (some_before (k ++ w) _ (some xt x to k w cut kept))
+            ∙ pair_line_end goes (some_before (k ++ w) _ (some xt x to k w cut kept))
             (in_place-split span_source xs (x ∷ []) the_parts.before).1
 
         -- where no other line end goes there
@@ -410,7 +449,7 @@ module _ (o : ParseOption) (bs : List SectionPiece) (t s : SectionPiece) (after 
             put_lines xt x to k w cut kept new new_name
             (pair (with_trailing (tail ++ line_end) p.stretches) p.key p.value) rest spans
             (lines_taken on (sections_spans bs ++ xt) p.stretches p.key p.value w ys (last_gap s) zs rest
-            is_feed
+            (and_parts o.enabled_indented_mutiline_value (has_separator p) goes).1 is_feed
             (subst (λ k. IsSplit o (sections_spans bs ++ xt) x k w ys (last_gap s) zs) none
             (parts xt x to k w cut kept))
             (subst (λ k. Rest o (section_end o (sections_spans bs ++ xt) x k w ys (last_gap s) zs)
@@ -425,9 +464,9 @@ module _ (o : ParseOption) (bs : List SectionPiece) (t s : SectionPiece) (after 
         ]
 
       with_pair : AreSections o (bs ++ new ∷ after)
-      with_pair = elim (cases_Bool (o.enabled_indented_mutiline_value && is_empty k)) [
+      with_pair = elim (cases_Bool (is_multiline o p && is_empty k)) [
         | inl both ↦
-            let two = and_parts o.enabled_indented_mutiline_value (is_empty k) both in
+            let two = and_parts (is_multiline o p) (is_empty k) both in
             in_lines two.0 (empty_is k two.1)
         | inr apart ↦ in_gap apart
       ]

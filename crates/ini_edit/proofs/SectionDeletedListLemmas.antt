@@ -1,5 +1,6 @@
 -- What taking a section out makes of the list of sections at an index, and of the document.
-use Rattle.std.proofs.Common.{◌≡◌, ◌≢◌, ◌∙◌, ◌&&◌, ◌+◌, ℕ, Bool, true, false, cond, List, [], ◌∷◌, ◌++◌, None}
+use Rattle.std.proofs.Common.{◌≡◌, ◌≢◌, ◌∙◌, ◌&&◌, ◌+◌, ℕ, Bool, true, false, cond, List, [], ◌∷◌, ◌++◌}
+use Rattle.std.proofs.Common.{None}
 use Rattle.std.proofs.Common.{Option, Some}
 use Rattle.std.proofs.Common.{◌==◌, ap, append_assoc, arith, get_or, length, map, refl, set, subst, sym}
 use Rattle.std.proofs.Common.{drop, take}
@@ -25,7 +26,8 @@ use Rattle.ini_edit.specs.SourceEditsSections.{with_rest_of_next}
 use Rattle.ini_edit.specs.SourceLines.{indentation_at_end, is_empty}
 use Rattle.ini_edit.specs.SourcePlaces.{Place, is_nil, last_before_gap, last_gap, last_place, nth_place}
 use Rattle.ini_edit.specs.SourcePlaces.{one_on, section_place, with_end}
-use Rattle.ini_edit.specs.Sources.{PairPiece, SectionPiece, given_pair, given_section, sections_text}
+use Rattle.ini_edit.specs.Sources.{PairPiece, SectionPiece, given_pair, given_section, is_multiline}
+use Rattle.ini_edit.specs.Sources.{sections_text}
 use Rattle.ini_edit.proofs.RestPutLemmas.{goes_after, would_take}
 use Rattle.ini_edit.proofs.SectionDeletedLemmas.{line_end, rest, sections_deleted}
 use Rattle.ini_edit.specs.declared.source.pair.ends.NewEnd.{NewEnd}
@@ -90,7 +92,7 @@ module _ {A : Type 0} (test : A → Bool) {K V : Type 0} (fits : K → Bool) (vi
 
 -- other last parts of a section give what they gave
 given_rest : (o : ParseOption) (l r : Text) (p : PairPiece) → given_pair (with_rest o l r p) ≡ given_pair p
-given_rest o l r p = at (o.enabled_indented_mutiline_value && is_empty p.after)
+given_rest o l r p = at (is_multiline o p && is_empty p.after)
   where
     at : (b : Bool) → given_pair (cond b (with_end (p.stretches.trailing_lines ++ l) (p.after ++ r) p)
         (with_end p.stretches.trailing_lines (p.after ++ (l ++ r)) p)) ≡ given_pair p
@@ -224,7 +226,8 @@ module _ (o : ParseOption) {ss : List SectionPiece} {p : Place SectionPiece} (i 
       ∙ map-append given_section b.bs (new ∷ p.after)
       ∙ ap (λ e. map given_section b.bs ++ e ∷ map given_section p.after) (new_gives)
       ∙ sym (map-append given_section b.bs (b.t ∷ p.after))
-      ∙ ap (map given_section) (sym (ap (λ l. l ++ p.after) before_is ∙ append_assoc b.bs (b.t ∷ []) p.after))
+      ∙ ap (map given_section)
+      (sym (ap (λ l. l ++ p.after) before_is ∙ append_assoc b.bs (b.t ∷ []) p.after))
       ∙ sym (one_gone (λ s. is_name name s.name) (is_name name) given_section (λ s. refl) ss p found)
     where
       new_gives : given_section new ≡ given_section b.t
@@ -294,7 +297,8 @@ module _ (o : ParseOption) {ss : List SectionPiece} {p : Place SectionPiece} (i 
       (last ∙ last_at p.after refl)
       ∙ ap (λ c. section_rest o (is_nil p.after) (last_before_gap c s s.pairs) (last_gap s)) there_text
       ∙ ap (λ s. section_rest o (is_nil p.after)
-      (last_before_gap (last_or line_feed (sections_text (b.bs ++ b.t ∷ []))) s s.pairs) (last_gap s)) here in
+      (last_before_gap (last_or line_feed (sections_text (b.bs ++ b.t ∷ []))) s s.pairs) (last_gap s)) here
+      in
       let end_is : line ≡ line_end o b.bs b.t p.here p.after =
       line_is gap whole_gap ∙ ap (λ g. line_end_before g s) rest_is
       ∙ ap (line_end_before (rest o b.bs b.t p.here p.after)) here in

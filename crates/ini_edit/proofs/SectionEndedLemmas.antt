@@ -1,12 +1,13 @@
 -- How the text before a new section is ended, and what of it is empty.
 use Rattle.std.proofs.Common.{◌≡◌, ◌≢◌, ◌∙◌, ◌&&◌, ℕ, Bool, true, false, List, [], ◌∷◌}
 use Rattle.std.proofs.Common.{◌++◌, ap, append_assoc, inl, inr, refl, sym}
-use Rattle.std.proofs.lemmas.Bool.{and_from, and_parts}
+use Rattle.std.proofs.lemmas.Bool.{and_from, and_parts, cases_Bool}
 use Rattle.std.proofs.lemmas.List.Folds.{list_all-append}
 use Rattle.std.specs.List.{list_all}
 use Rattle.std.specs.Prelude.{◌⊎◌, is_some}
-use Rattle.ini_text.specs.Grammar.CharacterKinds.{BeginsWithNo, is_line_end, is_line_feed}
-use Rattle.ini_text.specs.Grammar.Places.{Stretches}
+use Rattle.ini_text.specs.Grammar.CharacterKinds.{BeginsWith, BeginsWithNo, is_comment_mark, is_line_end}
+use Rattle.ini_text.specs.Grammar.CharacterKinds.{is_line_feed}
+use Rattle.ini_text.specs.Grammar.Places.{Stretches, pair_source}
 use Rattle.ini_text.specs.Grammar.Positions.{is_column_one, last_or}
 use Rattle.ini_text.specs.Laws.PieceLaws.{BeginAlike}
 use Rattle.ini_text.specs.declared.option.ParseOption.{ParseOption}
@@ -15,8 +16,10 @@ use Rattle.ini_edit.specs.Inside.InPlace.{AreInPlace}
 use Rattle.ini_edit.specs.Inside.Spans.{AreSpans, BeginGeneral, IsSpan, Span, pair}
 use Rattle.ini_edit.specs.SourceEditsSections.{is_ended_for, is_pair_ended}
 use Rattle.ini_edit.specs.Sources.{PairPiece, SectionPiece}
-use Rattle.ini_edit.proofs.AheadLemmas.{value_closes}
+use Rattle.ini_edit.proofs.AheadLemmas.{NoNoteAfter}
+use Rattle.ini_edit.proofs.LineCutLemmas.{apart_closes}
 use Rattle.ini_edit.proofs.PairAddedLemmas.{closes_nothing, ended_pair}
+use Rattle.ini_edit.proofs.PairViewLemmas.{one_line}
 use Rattle.ini_edit.proofs.SectionBeginLemmas.{has_name}
 
 pub ended_end : (o : ParseOption) (ps : List PairPiece) (p : PairPiece)
@@ -82,11 +85,19 @@ pub and_no : (a : Bool) {b : Bool} → b ≡ false → (a && b) ≡ false
 and_no true h = h
 and_no false h = refl
 
+-- a pair in one line that no line end follows ends the text
 pub pair_closes : {o : ParseOption} {c : ℕ} {p : Stretches} {key value y : Text}
-    → o.enabled_indented_mutiline_value ≡ false → BeginsWithNo is_line_end y
-    → AreSpans o c (pair p key value ∷ []) y → y ≡ []
-pair_closes {y = y} off no_end (AreInPlace.more (IsSpan.is_pair h) AreInPlace.none) =
-    closes_nothing y (value_closes off h.gives) no_end
+    → (o.enabled_indented_mutiline_value && is_some p.separator) ≡ false → BeginsWithNo is_line_end y
+    → (BeginsWith is_comment_mark y → is_line_feed (last_or c (pair_source p)) ≡ true)
+    → AreSpans o c (pair p key value ∷ []) y → (p.trailing_lines ≡ []) × (y ≡ [])
+pair_closes {c = c} {p = p} {y = y} off no_end column (AreInPlace.more (IsSpan.is_pair h) AreInPlace.none) =
+    ((one_line h off).0, closes_nothing y (apart_closes (apart y column) off h) no_end)
+  where
+    apart : (y : Text) → (BeginsWith is_comment_mark y → is_line_feed (last_or c (pair_source p)) ≡ true)
+        → NoNoteAfter (last_or c (pair_source p) ∷ []) y
+    apart [] column = inl tt
+    apart (d ∷ y) column = elim
+        (cases_Bool (is_comment_mark d)) [ inl mark ↦ inr (column mark) | inr other ↦ inl other ]
 
 pub regroup_put : (a xt : List Span) (x g : Span) (tail : List Span)
     → a ++ (((xt ++ x ∷ []) ++ g ∷ []) ++ tail) ≡ ((a ++ xt) ++ x ∷ []) ++ (g ∷ tail)

@@ -2,11 +2,13 @@
 use Rattle.std.proofs.Common.{◌≡◌, ◌≢◌, ◌∙◌, ℕ, true, List, [], ◌∷◌, ◌++◌, ap}
 use Rattle.std.proofs.Common.{append_assoc, append-nil, inl, inr, refl, subst, sym}
 use Rattle.std.specs.List.{list_all}
-use Rattle.std.specs.Prelude.{◌⊎◌, ⊤}
-use Rattle.std.proofs.lemmas.Bool.{both_ways, false≢true, or_left}
-use Rattle.ini_text.specs.Grammar.CharacterKinds.{BeginsWith, is_blank, is_comment_mark, is_line_end}
+use Rattle.std.specs.Prelude.{◌⊎◌, ⊤, is_some}
+use Rattle.std.proofs.lemmas.Bool.{and_from, both_ways, false≢true, or_left}
+use Rattle.ini_text.specs.Grammar.CharacterKinds.{BeginsWith, BeginsWithNo, is_blank, is_comment_mark}
+use Rattle.ini_text.specs.Grammar.CharacterKinds.{is_line_end}
 use Rattle.ini_text.specs.Grammar.CharacterKinds.{is_line_feed, line_feed}
-use Rattle.ini_text.specs.Grammar.Places.{Stretches, TrailingLines, pair_source, value_source}
+use Rattle.ini_text.specs.Grammar.Places.{Stretches, TrailingLines, after_key_source, pair_source}
+use Rattle.ini_text.specs.Grammar.Places.{value_source}
 use Rattle.ini_text.specs.Grammar.Positions.{last_or}
 use Rattle.ini_text.specs.Grammar.Values.{MoreLines, Value}
 use Rattle.ini_text.specs.Laws.PieceLaws.{Agree, BeginAlike}
@@ -14,23 +16,28 @@ use Rattle.ini_text.specs.declared.option.ParseOption.{ParseOption}
 use Rattle.ini_text.proofs.LawLemmas.PieceLemmas.{last_or-append}
 use Rattle.ini.specs.Texts.{Text}
 use Rattle.ini_edit.specs.Inside.InPlace.{AreInPlace}
-use Rattle.ini_edit.specs.Inside.Spans.{AreSpans, IsGap, IsPair, IsSpan, Span, gap, opening, pair}
-use Rattle.ini_edit.specs.Inside.Spans.{span_source}
+use Rattle.ini_edit.specs.Inside.Spans.{AreSpans, IsGap, IsPair, IsSpan, IsValuePair, Span, gap, opening}
+use Rattle.ini_edit.specs.Inside.Spans.{pair, span_source}
 use Rattle.ini_edit.specs.Places.{Follows}
 use Rattle.ini_edit.specs.SourceLines.{indentation_at_end}
 use Rattle.ini_edit.specs.Sources.{joined}
-use Rattle.ini_edit.proofs.AheadLemmas.{FollowsFront, header_before, tail_before, value_before}
+use Rattle.ini_edit.proofs.AheadLemmas.{FollowsFront, closes_no_line, header_before, tail_before}
+use Rattle.ini_edit.proofs.AheadLemmas.{value_before}
 use Rattle.ini_edit.proofs.DeletedLinesLemmas.{IsLineEnd, end_gap}
+use Rattle.ini_edit.proofs.DeletedPairLemmas.{keys_begin, pair_key_some, source_lines}
 use Rattle.ini_edit.proofs.EndedLemmas.{line_end-some-after}
 use Rattle.ini_edit.proofs.GapPartLemmas.{LineStarts, gap_any, gap_parts, some_before}
 use Rattle.ini_edit.proofs.InPlaceLemmas.{in_place-before, in_place-join, in_place-like, in_place-split}
-use Rattle.ini_edit.proofs.OwnBeforeLemmas.{own_ahead, own_before}
+use Rattle.ini_edit.proofs.LineCutLemmas.{text_closes}
+use Rattle.ini_edit.proofs.OwnBeforeLemmas.{note_stays, own_ahead}
 use Rattle.ini_edit.proofs.HeaderLemmas.{EmptyOrHeader}
+use Rattle.ini_edit.proofs.PairViewLemmas.{goes_on, lone_ends}
 use Rattle.ini_edit.proofs.QuietLemmas.{as_header}
 use Rattle.ini_edit.proofs.SectionRestLemmas.{Rest, Unindented, blanks_no_feed}
 use Rattle.ini_edit.proofs.GapLemmas.{gap_join, gap_like}
 use Rattle.ini_edit.proofs.SpanLemmas.{spans_local}
-use Rattle.ini_edit.proofs.TrailingLemmas.{trailing_lengthened, value_lengthened}
+use Rattle.ini_edit.proofs.TrailingLemmas.{note_lengthened, own_lengthened, trailing_lengthened}
+use Rattle.ini_edit.proofs.TrailingLemmas.{value_lengthened}
 
 -- a header or nothing is read alike after all fronts
 pub header_alike : {o : ParseOption} {b c x : Text} → EmptyOrHeader x → Agree o b c x
@@ -56,9 +63,11 @@ same_start [] y x some = absurd (some refl)
 same_start (c ∷ s) y x some = BeginAlike.character
 
 module _ {o : ParseOption} where
-  pub pair_before : {c : ℕ} {p : Stretches} {key value x y : Text} → FollowsFront [] y → Follows o x
-      → IsPair o c p key value y → IsPair o c p key value x
-  pair_before f follows h = record {
+  pub value_pair_before : {c : ℕ} {p : Stretches} {key value x y : Text} → FollowsFront [] y → Follows o x
+      → IsValuePair o c p key value y → IsPair o c p key value x
+  value_pair_before {p = p} {x = x} f follows h = IsPair.has_value (record {
+    separator = h.separator;
+    separator_is = h.separator_is;
     key_front = h.key_front;
     some = h.some;
     separates = h.separates;
@@ -67,24 +76,34 @@ module _ {o : ParseOption} where
     starts = h.starts;
     white_after = h.white_after;
     are_trailing = tail_before follows f h.are_trailing;
-    own_lines = own_ahead _ f h.are_trailing h.own_lines;
+    own_lines = own_ahead p.note x f h.are_trailing h.own_lines;
+    note = note_stays x f h.are_trailing h.note;
+    unnoted = h.unnoted;
     closed = h.closed;
-  }
+  })
 
-  item_before : {c : ℕ} {s : Span} {x y : Text} → FollowsFront [] y → MayPrecede o s x → IsSpan o c s y
-      → IsSpan o c s x
-  item_before f may IsSpan.general = IsSpan.general
-  item_before {x = x} f may (IsSpan.header e) = IsSpan.header (header_before x f (as_header e))
-  item_before f may (IsSpan.is_pair h) = IsSpan.is_pair (pair_before f may h)
-  item_before f may (IsSpan.is_gap h) = absurd may
+  pub pair_before : {c : ℕ} {p : Stretches} {key value x y : Text} → FollowsFront [] y
+      → BeginsWithNo is_comment_mark y → Follows o x → IsPair o c p key value y → IsPair o c p key value x
+  pair_before f unmarked follows (IsPair.has_value h) = value_pair_before f follows h
+  pair_before {y = y} f unmarked follows (IsPair.is_lone h) =
+      closes_no_line y f.some (text_closes o y (lone_ends h) unmarked)
+
+  item_before : {c : ℕ} {s : Span} {x y : Text} → FollowsFront [] y → BeginsWithNo is_comment_mark y
+      → MayPrecede o s x → IsSpan o c s y → IsSpan o c s x
+  item_before f unmarked may IsSpan.general = IsSpan.general
+  item_before {x = x} f unmarked may (IsSpan.header e) =
+      IsSpan.header (header_before [] x f.some (inl unmarked) (as_header e))
+  item_before f unmarked may (IsSpan.is_pair h) = IsSpan.is_pair (pair_before f unmarked may h)
+  item_before f unmarked may (IsSpan.is_gap h) = absurd may
 
   -- spans before a gap of which a front is kept
   pub spans_before_kept : {c : ℕ} (xs : List Span) (s : Span) (k w R x : Text)
-      → (span_source s ≡ [] → xs ≡ []) → FollowsFront [] (w ++ R) → (k ≡ [] → MayPrecede o s x)
+      → (span_source s ≡ [] → xs ≡ []) → FollowsFront [] (w ++ R) → BeginsWithNo is_comment_mark (w ++ R)
+      → (k ≡ [] → MayPrecede o s x)
       → AreSpans o c (xs ++ s ∷ []) ((k ++ w) ++ R) → AreSpans o c (xs ++ s ∷ []) (k ++ x)
-  spans_before_kept xs s (d ∷ k) w R x first f may h =
+  spans_before_kept xs s (d ∷ k) w R x first f unmarked may h =
       in_place-before span_source spans_local BeginAlike.character h
-  spans_before_kept {c} xs s [] w R x first f may h =
+  spans_before_kept {c} xs s [] w R x first f unmarked may h =
       let split = in_place-split span_source xs (s ∷ []) h in
       in_place-join span_source xs (s ∷ []) (front (span_source s) refl split.0) (last split.1)
     where
@@ -99,7 +118,7 @@ module _ {o : ParseOption} where
       last : AreSpans o (last_or c (joined span_source xs)) (s ∷ []) (w ++ R)
           → AreSpans o (last_or c (joined span_source xs)) (s ∷ []) x
       last (AreInPlace.more one AreInPlace.none) =
-          AreInPlace.more (item_before f (may refl) one) AreInPlace.none
+          AreInPlace.more (item_before f unmarked (may refl) one) AreInPlace.none
 
 -- the front after which what stays is put
 pub record AreLike (rest : Text) (new : ℕ) : Type 0 where
@@ -186,11 +205,12 @@ module _ {o : ParseOption} where
       → Rest o (section_end o xs s k w ys z zs) z rest (following o xs s k w ys z zs)
       → AreLike rest (last_or (last_or (fore_end o xs s k w ys z zs) k) l)
       → IsLineEnd l → between o xs s k w ys z zs ≢ []
-      → FollowsFront [] (w ++ between o xs s k w ys z zs) → (span_source s ≡ [] → xs ≡ [])
+      → FollowsFront [] (w ++ between o xs s k w ys z zs)
+      → BeginsWithNo is_comment_mark (w ++ between o xs s k w ys z zs) → (span_source s ≡ [] → xs ≡ [])
       → (k ≡ [] → MayPrecede o s ((l ++ rest) ++ following o xs s k w ys z zs))
       → EmptyOrHeader (joined span_source zs)
       → AreSpans o line_feed ((xs ++ s ∷ []) ++ (gap (k ++ (l ++ rest)) ∷ zs)) []
-  gap_taken xs s k w ys z zs l rest parts kept stays like end some front first may header =
+  gap_taken xs s k w ys z zs l rest parts kept stays like end some front unmarked first may header =
       let b = fore_end o xs s k w ys z zs in
       let R = between o xs s k w ys z zs in
       let Z = following o xs s k w ys z zs in
@@ -202,7 +222,7 @@ module _ {o : ParseOption} where
       (gap_join (end_gap end) (rest_moved stays like)) in
       in_place-join span_source (xs ++ s ∷ []) (gap new ∷ zs)
       (subst (AreSpans o line_feed (xs ++ s ∷ [])) (sym text)
-      (spans_before_kept xs s k w R ((l ++ rest) ++ Z) first front may parts.before))
+      (spans_before_kept xs s k w R ((l ++ rest) ++ Z) first front unmarked may parts.before))
       (AreInPlace.more (IsSpan.is_gap is)
       (in_place-like span_source spans_local (header_alike header) parts.after))
 
@@ -225,33 +245,20 @@ feed_last c IsFeed.cr_lf = refl
 abbrev pub with_trailing : Text → Stretches → Stretches
 with_trailing t p = record p { trailing_lines = t }
 
-longer_last : (p : Stretches) (l : Text) (c : ℕ)
-    → last_or c (pair_source (with_trailing (p.trailing_lines ++ l) p))
-    ≡ last_or (last_or (last_or (last_or (last_or p.separator p.space_before) p.raw_value) p.space_after)
-    p.trailing_lines) l
-longer_last p l c =
-    let t = p.trailing_lines ++ l in
-    let d = last_or p.separator p.space_before in
-    let e = last_or d p.raw_value in
-    last_or-append c p.key (p.separator ∷ value_source (with_trailing t p))
-    ∙ last_or-append p.separator p.space_before (p.raw_value ++ (p.space_after ++ t))
-    ∙ last_or-append d p.raw_value (p.space_after ++ t)
-    ∙ last_or-append e p.space_after t
-    ∙ last_or-append (last_or e p.space_after) p.trailing_lines l
-
 longer_feed : {l : Text} (p : Stretches) (c : ℕ) → IsFeed l
     → last_or c (pair_source (with_trailing (p.trailing_lines ++ l) p)) ≡ line_feed
 longer_feed {l} p c feed =
-    longer_last p l c
-    ∙ feed_last (last_or (last_or (last_or (last_or p.separator p.space_before) p.raw_value) p.space_after)
-    p.trailing_lines) feed
+    ap (last_or c) (source_lines l p) ∙ last_or-append c (pair_source p) l
+    ∙ feed_last (last_or c (pair_source p)) feed
 
 pub longer_value : (p : Stretches) (l : Text)
     → value_source p ++ l ≡ value_source (with_trailing (p.trailing_lines ++ l) p)
 longer_value p l =
-    append_assoc p.space_before (p.raw_value ++ (p.space_after ++ p.trailing_lines)) l
-    ∙ ap (λ z. p.space_before ++ z) (append_assoc p.raw_value (p.space_after ++ p.trailing_lines) l
-    ∙ ap (λ z. p.raw_value ++ z) (append_assoc p.space_after p.trailing_lines l))
+    append_assoc p.space_before (p.raw_value ++ (p.space_after ++ (p.note ++ p.trailing_lines))) l
+    ∙ ap (λ z. p.space_before ++ z)
+    (append_assoc p.raw_value (p.space_after ++ (p.note ++ p.trailing_lines)) l
+    ∙ ap (λ z. p.raw_value ++ z) (append_assoc p.space_after (p.note ++ p.trailing_lines) l
+    ∙ ap (λ z. p.space_after ++ z) (append_assoc p.note p.trailing_lines l)))
 
 pub longer_begins : (t y l x : Text) → t ≢ [] → BeginAlike (t ++ y) ((t ++ l) ++ x)
 longer_begins [] y l x some = absurd (some refl)
@@ -273,9 +280,11 @@ module _ {o : ParseOption} (on : o.enabled_indented_mutiline_value ≡ true) whe
 
   -- a multiline value that something follows, with one more line end
   pub pair_longer : {c : ℕ} {p : Stretches} {key value y x l : Text} → IsFeed l → Follows o x → y ≢ []
-      → IsPair o c p key value y
+      → IsValuePair o c p key value y
       → IsPair o c (with_trailing (p.trailing_lines ++ l) p) key value x
-  pair_longer {p = p} {value = value} {x = x} {l} feed follows some h = record {
+  pair_longer {p = p} {value = value} {x = x} {l} feed follows some h = IsPair.has_value (record {
+    separator = h.separator;
+    separator_is = h.separator_is;
     key_front = h.key_front;
     some = h.some;
     separates = h.separates;
@@ -285,14 +294,15 @@ module _ {o : ParseOption} (on : o.enabled_indented_mutiline_value ≡ true) whe
     starts = h.starts;
     white_after = h.white_after;
     are_trailing = trailing_lengthened on (feed_lines feed follows) refl some h.are_trailing;
-    own_lines = own_before (longer_begins p.trailing_lines _ l x (trailing_some some h.are_trailing))
-        h.own_lines;
+    own_lines = own_lengthened on (feed_lines feed follows) refl p.note some h.are_trailing h.own_lines;
+    note = note_lengthened on (feed_lines feed follows) refl some h.are_trailing h.note;
+    unnoted = h.unnoted;
     closed = h.closed;
-  }
+  })
 
   -- where a multiline value stands there, and comments stay after another line end
   pub lines_taken : (xs : List Span) (p : Stretches) (key value w : Text) (ys : List Span) (z : Text)
-      (zs : List Span) (rest : Text) {l : Text} → IsFeed l
+      (zs : List Span) (rest : Text) {l : Text} → is_some p.separator ≡ true → IsFeed l
       → IsSplit o xs (pair p key value) [] w ys z zs
       → Rest o (section_end o xs (pair p key value) [] w ys z zs) z rest
       (following o xs (pair p key value) [] w ys z zs)
@@ -301,16 +311,19 @@ module _ {o : ParseOption} (on : o.enabled_indented_mutiline_value ≡ true) whe
       → EmptyOrHeader (joined span_source zs)
       → AreSpans o line_feed
       (xs ++ (pair (with_trailing (p.trailing_lines ++ l) p) key value ∷ gap rest ∷ zs)) []
-  lines_taken xs p key value w ys z zs rest {l} feed parts stays follows some header =
+  lines_taken xs p key value w ys z zs rest {l} there feed parts stays follows some header =
       let longer = with_trailing (p.trailing_lines ++ l) p in
       let front = in_place-split span_source xs (pair p key value ∷ []) parts.before in
       in_place-join span_source xs (pair longer key value ∷ gap rest ∷ zs)
       (in_place-before span_source spans_local
-      (key_starts p.key p.separator (value_source p) []
-      (w ++ between o xs (pair p key value) [] w ys z zs)
-      (value_source longer) (rest ++ joined span_source zs) []) front.0)
+      (keys_begin p.key (after_key_source p) (after_key_source longer) []
+      (rest ++ joined span_source zs) (w ++ between o xs (pair p key value) [] w ys z zs) []
+      (pair_key_some front.1)) front.0)
       (at front.1)
     where
+      value_of : {c : ℕ} {y : Text} → IsPair o c p key value y → IsValuePair o c p key value y
+      value_of h = goes_on h (and_from o.enabled_indented_mutiline_value (is_some p.separator) on there)
+
       at : AreSpans o (last_or line_feed (joined span_source xs)) (pair p key value ∷ [])
           (w ++ between o xs (pair p key value) [] w ys z zs)
           → AreSpans o (last_or line_feed (joined span_source xs))
@@ -325,6 +338,6 @@ module _ {o : ParseOption} (on : o.enabled_indented_mutiline_value ≡ true) whe
           } in
           AreInPlace.more
           (IsSpan.is_pair (subst (IsPair o c longer key value) (sym (append_assoc rest
-          (joined span_source zs) [])) (pair_longer feed follows more h)))
+          (joined span_source zs) [])) (pair_longer feed follows more (value_of h))))
           (AreInPlace.more (IsSpan.is_gap (rest_moved stays like))
           (in_place-like span_source spans_local (header_alike header) parts.after))

@@ -4,6 +4,7 @@ use Rattle.std.proofs.Common.{encode_utf8, refl, subst}
 use Rattle.std.proofs.lemmas.Str.{IsUtf8-nil, chars-nil}
 use Rattle.std.specs.Char.{IsScalar}
 use Rattle.ini_text.specs.Device.Gathering.{Sends}
+use Rattle.ini_text.specs.Grammar.Places.{separator_text}
 use Rattle.ini_text.specs.declared.device.Watched.{Watched}
 use Rattle.ini_text.specs.declared.error.Error.{Error}
 use Rattle.ini_text.specs.declared.write.gather.Gatherer.{Gatherer}
@@ -25,13 +26,7 @@ sent_as {contents = contents} {a} {b} {g} {h} {r} {y = y} {u = u} same other sen
 
 -- a pair's text, two stretches at a time
 pub pair_parts : (p : PairPiece)
-    → (((p.stretches.key ++ p.stretches.separator ∷ [])
+    → (((p.stretches.key ++ separator_text p.stretches.separator)
     ++ (p.stretches.space_before ++ p.stretches.raw_value))
-    ++ (p.stretches.space_after ++ p.stretches.trailing_lines)) ++ p.after ≡ pair_text p
-pair_parts p =
-    let s = p.stretches in
-    let value = s.space_before ++ s.raw_value in
-    let ends = s.space_after ++ s.trailing_lines in
-    ap (λ t. (t ++ ends) ++ p.after) (append_assoc s.key (s.separator ∷ []) value)
-    ∙ ap (λ t. t ++ p.after) (append_assoc s.key (s.separator ∷ value) ends)
-    ∙ ap (λ t. (s.key ++ s.separator ∷ t) ++ p.after) (append_assoc s.space_before s.raw_value ends)
+    ++ (p.stretches.space_after ++ p.stretches.note)) ++ (p.stretches.trailing_lines ++ p.after) ≡ pair_text p
+pair_parts p = simp append_assoc

@@ -1,5 +1,5 @@
--- The document of a text in pieces in which a key was set: in its first pair, the later ones out, or in a new
--- pair.
+-- The document of a text in pieces in which a key was set: in its first pair, the later ones out, or in a
+-- new pair.
 use Rattle.std.proofs.Common.{◌≡◌, ◌∙◌, ◌-◌, ◌≤◌, ℕ, Bool, true, false, cond, List, [], ◌∷◌, ◌++◌}
 use Rattle.std.proofs.Common.{None, Option, Some, ap, arith, map, not, refl, suc, sym, zero}
 use Rattle.std.proofs.lemmas.Bool.{cond-false, cond-true}
@@ -13,9 +13,9 @@ use Rattle.ini.specs.Documents.{Document}
 use Rattle.ini.specs.Edits.{add_in, edit_section, set_in}
 use Rattle.ini.specs.Properties.{Pairs, all_removed, first_value, inserted}
 use Rattle.ini.specs.Texts.{Text, is_name, is_text}
-use Rattle.ini_edit.specs.SourceEdits.{with_value}
-use Rattle.ini_edit.specs.SourceEditsDelete.{count_of, deleted_at, deleted_nth, deleted_times, pair_taken_out}
-use Rattle.ini_edit.specs.SourceEditsSet.{IsFirstSet, pair_changed_at}
+use Rattle.ini_edit.specs.SourceEditsDelete.{count_of, deleted_at, deleted_nth, deleted_times}
+use Rattle.ini_edit.specs.SourceEditsDelete.{pair_taken_out}
+use Rattle.ini_edit.specs.SourceEditsSet.{IsFirstSet, pair_changed_at, with_value_before}
 use Rattle.ini_edit.specs.SourcePlaces.{PairPlace, Place, edited_at, last_before_section, nth_place}
 use Rattle.ini_edit.specs.SourcePlaces.{pair_place, section_place}
 use Rattle.ini_edit.specs.Sources.{PairPiece, SectionPiece, given_pair, given_section}
@@ -23,8 +23,10 @@ use Rattle.ini_edit.specs.declared.source.set.LaterPairs.TheVariants.{TakenOut}
 use Rattle.ini_edit.proofs.DeletedSourceLemmas.{IsPlaced, NthIs, NthNone, count_more, first_again}
 use Rattle.ini_edit.proofs.DeletedSourceLemmas.{keyed_count, none_above, nth_fits, nth_is, nth_none}
 use Rattle.ini_edit.proofs.DeletedSourceLemmas.{nth_whole, pair_within, placed, placed_in, taken_count}
-use Rattle.ini_edit.proofs.DeletedSourceLemmas.{taken_given, taken_name, unmapped}
+use Rattle.ini_edit.proofs.DeletedSourceLemmas.{taken_given, unmapped}
+use Rattle.ini_edit.proofs.TakenLemmas.{taken_name}
 use Rattle.ini_edit.proofs.SetAloneLemmas.{again, counted, place_with}
+use Rattle.ini_edit.proofs.SourceWrittenLemmas.{before_given}
 
 module _ (key : Text) where
   abbrev fits : PairPiece → Bool
@@ -53,13 +55,15 @@ module _ (key : Text) where
         ∙ sym (cond-false (is_text key x.key) _ _ is)
 
     -- the first one with another value
-    set_first : (source other : Text) {ps : List PairPiece} {p : Place PairPiece} → NthIs fits 0 ps p
-        → inserted key value (map given_pair (p.before ++ with_value source other p.here ∷ p.after))
+    set_first : (new : PairPiece) {ps : List PairPiece} {p : Place PairPiece} → new.key ≡ p.here.key
+        → NthIs fits 0 ps p
+        → inserted key value (map given_pair (p.before ++ new ∷ p.after))
         ≡ inserted key value (map given_pair ps)
-    set_first source other (NthIs.found {x = x} is) =
-        cond-true (is_text key x.key) _ _ is ∙ sym (cond-true (is_text key x.key) _ _ is)
-    set_first source other (NthIs.apart {x = x} is more) =
-        cond-false (is_text key x.key) _ _ is ∙ ap (λ l. given_pair x ∷ l) (set_first source other more)
+    set_first new same (NthIs.found {x = x} {xs = xs} is) =
+        ap (λ k. inserted key value ((k, new.value) ∷ map given_pair xs)) same
+        ∙ cond-true (is_text key x.key) _ _ is ∙ sym (cond-true (is_text key x.key) _ _ is)
+    set_first new same (NthIs.apart {x = x} is more) =
+        cond-false (is_text key x.key) _ _ is ∙ ap (λ l. given_pair x ∷ l) (set_first new same more)
         ∙ sym (cond-false (is_text key x.key) _ _ is)
 
     -- a key that isn't there goes last
@@ -115,11 +119,13 @@ module _ (key : Text) where
   first_one (NthIs.apart {x = x} is more) =
       cond-false (is_text key x.key) _ _ is ∙ first_one more ∙ sym (cond-false (is_text key x.key) _ _ is)
 
-  first_has : (source value : Text) {ps : List PairPiece} {p : Place PairPiece} → NthIs fits 0 ps p
-      → first_value key (map given_pair (p.before ++ with_value source value p.here ∷ p.after)) ≡ Some value
-  first_has source value (NthIs.found {x = x} is) = cond-true (is_text key x.key) _ _ is
-  first_has source value (NthIs.apart {x = x} is more) =
-      cond-false (is_text key x.key) _ _ is ∙ first_has source value more
+  first_has : (new : PairPiece) (value : Text) {ps : List PairPiece} {p : Place PairPiece}
+      → given_pair new ≡ (p.here.key, value) → NthIs fits 0 ps p
+      → first_value key (map given_pair (p.before ++ new ∷ p.after)) ≡ Some value
+  first_has new value given (NthIs.found {x = x} {xs = xs} is) =
+      ap (λ g. first_value key (g ∷ map given_pair xs)) given ∙ cond-true (is_text key x.key) _ _ is
+  first_has new value given (NthIs.apart {x = x} is more) =
+      cond-false (is_text key x.key) _ _ is ∙ first_has new value given more
 
 -- a section that lost later pairs of the key
 record IsLess (key : Text) (s t : SectionPiece) : Type 0 where
@@ -237,20 +243,22 @@ first_set_document {o} {old = old} {new} {name} {key} {value} h =
         let place = h.is_set.place in
         let s = place.section in
         let source = h.is_set.source in
-        let changed = pair_changed_at (with_value source value) place in
+        let changed = pair_changed_at (with_value_before o source value place.pair.after) place in
+        let here = with_value_before o source value place.pair.after place.pair.here in
+        let here_given = before_given o source value place.pair.after place.pair.here in
         let there = again o name key 0 old place h.is_set.was source value
         (IsPlaced.in_section section pair) in
         let k = count_of name key changed - 1 in
-        let less = times_less o name key k changed (place_with place source value) there in
+        let less = times_less o name key k changed (place_with o place source value) there in
         let is : new ≡ s.before ++ less.section ∷ s.after =
         h.is ∙ ap (λ ss. deleted_times o name key 1 (count_of name key ss - 1) ss) h.is_set.is ∙ less.whole in
         let few : count_by (fits key) less.section.pairs ≤ 1 =
         less.few (omega (arith, counted o name key 0 old place h.is_set.was source value)) in
         let given = map given_pair less.section.pairs in
         let pairs : given ≡ inserted key value (map given_pair s.here.pairs) =
-        sym (set_already key value given (less.less.first ∙ first_has key source value pair)
+        sym (set_already key value given (less.less.first ∙ first_has key here value here_given pair)
         (omega (arith, few, keyed_count o name key less.section.pairs)))
-        ∙ less.less.set value ∙ set_first key value source value pair in
+        ∙ less.less.set value ∙ set_first key value here (ap (λ g. g.0) here_given) pair in
         ap (map given_section) is ∙ map-append given_section s.before (less.section ∷ s.after)
         ∙ ap (λ n. map given_section s.before ++ ((n, given) ∷ map given_section s.after)) less.less.name
         ∙ ap (λ g. map given_section s.before ++ ((s.here.name, g) ∷ map given_section s.after)) pairs

@@ -112,10 +112,11 @@ data Passes (c : ℕ) (s t : Text) : Type 0 where
   solid : from_last_solid c (s ++ t) ≡ option_or (from_last_solid (last_or c s) t) (Some (s ++ t))
       → IsSolid c (s ++ t) → Passes c s t
 
-note_passes : {c : ℕ} {w s r : Text} (t : Text) → NoteFront (c ∷ []) w → Note s r
+note_passes : {o : ParseOption} {c : ℕ} {w s r : Text} (t : Text) → NoteFront o (c ∷ []) w → Note s r
     → (t ≡ []) ⊎ BeginsWith is_line_end t → Passes c (w ++ s) t
-note_passes {c} t (NoteFront.after_cr starts late) remark ends = Passes.past (note_past c t late remark ends)
-note_passes {c} {w} {s} t (NoteFront.indented i) remark ends =
+note_passes {c = c} t (NoteFront.alone may late) remark ends =
+    Passes.past (note_past c t late remark ends)
+note_passes {c = c} {w = w} {s = s} t (NoteFront.indented on i) remark ends =
     Passes.past (ap (from_last_solid c) (append_assoc w s t) ∙ blanks_past c w (s ++ t) i.blank
     ∙ note_past (last_or c w) t (blanks_no_feed_last c w i.some i.blank) remark ends
     ∙ ap (λ d. from_last_solid d t) (sym (last_or-append c w s)))
@@ -165,7 +166,7 @@ module _ {o : ParseOption} where
       (sym (last_or-append m s (line_feed ∷ []))))
       (record { no_blank = apart.0; no_end = line; column = λ _. one })
   passes t y is (Quiet.at_end tail) some other = absurd (some refl)
-  passes t y is (Quiet.at_line_end on front remark) some other =
+  passes t y is (Quiet.at_line_end front remark) some other =
       note_passes t front remark (closes_front t y (subst (Closes plain_ends) is (note_closes remark)))
 
 source_some : (s : Text) → 1 ≤ length s → (t : Text) → s ++ t ≡ [] → ⊥
@@ -213,7 +214,8 @@ module _ {o : ParseOption} {y : Text} (some : y ≢ []) (other : BeginsWithNo (�
           → SolidCut o (last_or c p.source) ps g)
           → SolidCut o c (p ∷ ps) g
       at (Passes.past same) more = later (more (sym same ∙ is))
-      at (Passes.solid same begins) more = either (from_last_solid (last_or c p.source) (pieces_text ps)) refl
+      at (Passes.solid same begins) more = either
+          (from_last_solid (last_or c p.source) (pieces_text ps)) refl
         where
           either : (r : Option Text) → from_last_solid (last_or c p.source) (pieces_text ps) ≡ r
               → SolidCut o c (p ∷ ps) g

@@ -1,14 +1,16 @@
 -- A pair put into a text in pieces where values are in one line: two spans more, after a line end.
-use Rattle.std.proofs.Common.{◌≡◌, ◌∙◌, ℕ, true, false, List, [], ◌∷◌, ◌++◌, ap, append_assoc, append-nil}
-use Rattle.std.proofs.Common.{refl, subst, sym}
+use Rattle.std.proofs.Common.{◌≡◌, ◌≤◌, ◌∙◌, ◌&&◌, ◌||◌, ℕ, Bool, true, false, List, [], ◌∷◌, ◌++◌, ap}
+use Rattle.std.proofs.Common.{append_assoc}
+use Rattle.std.proofs.Common.{append-nil}
+use Rattle.std.proofs.Common.{arith, length, refl, subst, sym}
 use Rattle.std.proofs.Common.{inl, inr}
-use Rattle.std.proofs.lemmas.Bool.{and_parts, both_ways, cases_Bool}
+use Rattle.std.proofs.lemmas.Bool.{and_parts, both_ways, cases_Bool, false≢true}
 use Rattle.std.specs.List.{list_all}
-use Rattle.ini_text.specs.Grammar.CharacterKinds.{BeginsWith, carriage_return, is_blank, is_comment_mark}
-use Rattle.ini_text.specs.Grammar.CharacterKinds.{is_line_end, is_line_feed, line_feed}
-use Rattle.ini_text.specs.Grammar.Elements.{Element, Gap}
+use Rattle.ini_text.specs.Grammar.CharacterKinds.{BeginsWith, BeginsWithNo, carriage_return, is_blank}
+use Rattle.ini_text.specs.Grammar.CharacterKinds.{is_comment_mark, is_line_end, is_line_feed, line_feed}
+use Rattle.ini_text.specs.Grammar.Elements.{Element, Gap, may_have_note}
 use Rattle.ini_text.specs.Grammar.Pieces.{ArePieces}
-use Rattle.ini_text.specs.Grammar.Places.{Stretches, TrailingLines, pair_source, value_source}
+use Rattle.ini_text.specs.Grammar.Places.{Stretches, after_key_source, pair_source}
 use Rattle.ini_text.specs.Grammar.Positions.{is_column_one, last_or, starts_line}
 use Rattle.ini_text.specs.Grammar.Strings.{Closes, plain_ends}
 use Rattle.ini_text.specs.Grammar.Values.{LineEnd}
@@ -18,16 +20,19 @@ use Rattle.ini_text.proofs.GrammarLemmas.KindLemmas.{line_end_no_blank}
 use Rattle.ini_text.proofs.LawLemmas.PieceLemmas.{last_or-append}
 use Rattle.ini_text.proofs.PlainLemmas.PlainPairLemmas.{line_end_closes}
 use Rattle.ini_text.proofs.PlainLemmas.PlainTrimLemmas.{line_end_is_white}
+use Rattle.ini_text.proofs.ReaderLemmas.KeyReaderLemmas.{KeyFront-some}
 use Rattle.ini.specs.Texts.{Text}
 use Rattle.ini_edit.specs.Inside.InPlace.{AreInPlace}
 use Rattle.ini_edit.specs.Inside.Spans.{AreSpans, IsGap, IsPair, IsSpan, Span, gap, pair, span_source}
-use Rattle.ini_edit.specs.Sources.{PairPiece, joined}
-use Rattle.ini_edit.proofs.AheadLemmas.{value_closes}
-use Rattle.ini_edit.proofs.GapLemmas.{CommentPlace, gap_cut, gaps_joined, spans_place}
+use Rattle.ini_edit.specs.SourceEditsAdd.{notes_behind_return}
+use Rattle.ini_edit.specs.Sources.{PairPiece, is_multiline, joined}
+use Rattle.ini_edit.proofs.GapLemmas.{CommentPlace, gaps_joined, spans_place}
 use Rattle.ini_edit.proofs.GapPartLemmas.{all_last}
 use Rattle.ini_edit.proofs.InPlaceLemmas.{in_place-before, in_place-exchanged, in_place-join, in_place-put}
 use Rattle.ini_edit.proofs.InPlaceLemmas.{in_place-split, joined-append}
-use Rattle.ini_edit.proofs.ClosedPairLemmas.{closed_stretches, pair_closed}
+use Rattle.ini_edit.proofs.ClosedPairLemmas.{closed_key, closed_stretches, key_closing, pair_closed}
+use Rattle.ini_edit.proofs.LineCutLemmas.{LineHead, text_closes}
+use Rattle.ini_edit.proofs.PairViewLemmas.{key_front_of, one_line, some_key}
 use Rattle.ini_edit.proofs.SourceSetLemmas.{closed_agrees}
 use Rattle.ini_edit.proofs.SpanLemmas.{spans_local}
 
@@ -43,26 +48,35 @@ feed_end = record { all = refl; feed = refl; is_end = λ r. LineEnd.lf }
 pub return_end : IsNewEnd carriage_return (line_feed ∷ [])
 return_end = record { all = refl; feed = refl; is_end = λ r. LineEnd.cr_lf }
 
--- A line end of a new line after one that ends with e: as this ends, or with LF where no comment can stand
+-- A line end of a new line after one that ends with e: as this ends, or with LF where no note can stand
 -- behind CR.
 pub record IsPutEnd (o : ParseOption) (e : Text) (d : ℕ) (ds : Text) : Type 0 where
   pub all : list_all is_line_end (d ∷ ds) ≡ true
-  pub feed : o.enabled_indented_comment ≡ false → is_line_feed (last_or d ds) ≡ true
-  pub same : o.enabled_indented_comment ≡ true → (c : ℕ)
+  pub feed : notes_behind_return o ≡ false → is_line_feed (last_or d ds) ≡ true
+  pub same : notes_behind_return o ≡ true → (c : ℕ)
       → is_line_feed (last_or c e) ≡ is_line_feed (last_or d ds)
 
 pub new_put_end : {o : ParseOption} {d : ℕ} {ds : Text} → IsNewEnd d ds → IsPutEnd o (d ∷ ds) d ds
 new_put_end end = record { all = end.all; feed = λ _. end.feed; same = λ _ c. refl }
 
--- where indented comments are off spans that begin with a mark stand in column one
-pub spans_column_off : {o : ParseOption} {c : ℕ} {r : Text} → o.enabled_indented_comment ≡ false
+-- where notes are off spans that begin with a mark stand in column one
+notes_off : (o : ParseOption) (b : Text) → notes_behind_return o ≡ false → may_have_note o b ≡ false
+notes_off o b h = at o.enabled_inline_comment o.enabled_indented_comment (starts_line b) h
+  where
+    at : (n i s : Bool) → (n || i && true) ≡ false → (n || i && s) ≡ false
+    at true i s h = h
+    at false true s h = absurd (false≢true (sym h))
+    at false false s h = refl
+
+pub spans_column_off : {o : ParseOption} {c : ℕ} {r : Text} → notes_behind_return o ≡ false
     → (xs : List Span) → AreSpans o c xs r → BeginsWith is_comment_mark (joined span_source xs)
     → is_column_one (c ∷ []) ≡ true
 spans_column_off {o} {c} off xs h m = at (spans_place xs h m)
   where
     at : CommentPlace o (c ∷ []) → is_column_one (c ∷ []) ≡ true
     at (CommentPlace.column one) = one
-    at (CommentPlace.after_cr on starts late) = absurd (both_ways o.enabled_indented_comment off on)
+    at (CommentPlace.alone may late) =
+        absurd (both_ways (may_have_note o (c ∷ [])) (notes_off o (c ∷ []) off) may)
 
 module _ {o : ParseOption} where
   -- line ends are a gap wherever they stand
@@ -109,11 +123,12 @@ module _ {o : ParseOption} where
         comment = λ _ _. start ∙ sym starts;
       })
 
-  -- a gap's first line end is a gap of its own
-  pub gap_parted : (xs : List Span) (e b : Text) {x : Text} (zs : List Span) → list_all is_line_end e ≡ true
-      → LineEnd e x → AreSpans o line_feed (xs ++ (gap (e ++ b) ∷ zs)) []
+  -- a gap's first line end, and a note before it, are a gap of their own
+  pub gap_parted : (xs : List Span) (e b : Text) (zs : List Span)
+      → LineHead o (last_or line_feed (joined span_source xs)) e b
+      → AreSpans o line_feed (xs ++ (gap (e ++ b) ∷ zs)) []
       → AreSpans o line_feed (xs ++ (gap e ∷ gap b ∷ zs)) []
-  gap_parted xs e b zs all end h =
+  gap_parted xs e b zs head h =
       let split = in_place-split span_source xs (gap (e ++ b) ∷ zs) h in
       at split.0 split.1
     where
@@ -129,17 +144,9 @@ module _ {o : ParseOption} where
       at front (AreInPlace.more (IsSpan.is_gap g) rest) =
           in_place-join span_source xs (gap e ∷ gap b ∷ zs)
           (subst (λ t. AreSpans o line_feed xs (t ++ [])) (append_assoc e b following) front)
-          (AreInPlace.more (IsSpan.is_gap (line_ends_gap e all))
-          (AreInPlace.more (IsSpan.is_gap (gap_cut end g))
+          (AreInPlace.more (IsSpan.is_gap (head.is ((b ++ following) ++ [])))
+          (AreInPlace.more (IsSpan.is_gap (head.rest (following ++ []) g))
           (subst (λ z. AreSpans o z zs []) (last_or-append c e b) rest)))
-
-pub no_tail : {o : ParseOption} {t r : Text} → o.enabled_indented_mutiline_value ≡ false
-    → TrailingLines o t r
-    → t ≡ []
-no_tail off (TrailingLines.line _ h) = refl
-no_tail {o} off (TrailingLines.end on) = absurd (both_ways o.enabled_indented_mutiline_value off on)
-no_tail {o} off (TrailingLines.lines on end more all) =
-    absurd (both_ways o.enabled_indented_mutiline_value off on)
 
 module _ {o : ParseOption} where
   pub left : {c : ℕ} {r : Text} (xs ys zs : List Span) → AreSpans o c (xs ++ (ys ++ zs)) r
@@ -150,23 +157,30 @@ module _ {o : ParseOption} where
       → AreSpans o c (xs ++ (ys ++ zs)) r
   right {c} {r} xs ys zs h = subst (λ l. AreSpans o c l r) (append_assoc xs ys zs) h
 
--- keys and separators that are the same begin alike
-pub keys_alike : (k : Text) (m : ℕ) (v w a b x y : Text)
-    → BeginAlike (((k ++ m ∷ v) ++ a) ++ x) (((k ++ m ∷ w) ++ b) ++ y)
-keys_alike [] m v w a b x y = BeginAlike.character
-keys_alike (c ∷ k) m v w a b x y = BeginAlike.character
+-- pairs begin alike whose keys do
+pub sources_alike : {o : ParseOption} {c : ℕ} {p : Stretches} {key value r : Text}
+    → IsPair o c p key value r → (q : Stretches) (k : Text) → q.key ≡ p.key ++ k → (a b x y : Text)
+    → BeginAlike ((pair_source p ++ a) ++ x) ((pair_source q ++ b) ++ y)
+sources_alike {p = p} is q k same a b x y =
+    subst (λ i. BeginAlike ((pair_source p ++ a) ++ x) (((i ++ after_key_source q) ++ b) ++ y)) (sym same)
+    (at p.key (KeyFront-some (key_front_of is) (some_key is)))
+  where
+    at : (j : Text) → 1 ≤ length j
+        → BeginAlike (((j ++ after_key_source p) ++ a) ++ x) ((((j ++ k) ++ after_key_source q) ++ b) ++ y)
+    at [] some = absurd (omega arith)
+    at (c ∷ j) some = BeginAlike.character
 
-ends_alike : {e r : Text} (a b x y : Text) → LineEnd e r → BeginAlike ((e ++ a) ++ x) ((e ++ b) ++ y)
+pub ends_alike : {e r : Text} (a b x y : Text) → LineEnd e r → BeginAlike ((e ++ a) ++ x) ((e ++ b) ++ y)
 ends_alike a b x y LineEnd.lf = BeginAlike.character
 ends_alike a b x y LineEnd.cr_lf = BeginAlike.character
 ends_alike a b x y (LineEnd.cr n) = BeginAlike.character
 
-line_end_all : {e r : Text} → LineEnd e r → list_all is_line_end e ≡ true
+pub line_end_all : {e r : Text} → LineEnd e r → list_all is_line_end e ≡ true
 line_end_all LineEnd.lf = refl
 line_end_all LineEnd.cr_lf = refl
 line_end_all (LineEnd.cr n) = refl
 
-line_end_starts : {e r : Text} (c : ℕ) → LineEnd e r → starts_line (last_or c e ∷ []) ≡ true
+pub line_end_starts : {e r : Text} (c : ℕ) → LineEnd e r → starts_line (last_or c e ∷ []) ≡ true
 line_end_starts c LineEnd.lf = refl
 line_end_starts c LineEnd.cr_lf = refl
 line_end_starts c (LineEnd.cr n) = refl
@@ -180,19 +194,19 @@ module _ {o : ParseOption} (off : o.enabled_indented_mutiline_value ≡ false) (
     added = pair q key value
 
     -- a new line after a gap whose line ends
-    pub added_line : {d : ℕ} {ds : Text} (ws : List Span) (zs : List Span) (e r : Text) → LineEnd e r
-        → IsPutEnd o e d ds
+    pub added_line : {d : ℕ} {ds : Text} (ws : List Span) (zs : List Span) (e r : Text)
+        → LineHead o (last_or line_feed (joined span_source ws)) e r → IsPutEnd o e d ds
         → AreSpans o line_feed (ws ++ (gap (e ++ r) ∷ zs)) []
         → AreSpans o line_feed (ws ++ (gap e ∷ added ∷ gap ((d ∷ ds) ++ r) ∷ zs)) []
-    added_line {d} {ds} ws zs e r le end h =
+    added_line {d} {ds} ws zs e r head end h =
         let vs = ws ++ gap e ∷ [] in
-        let parted = gap_parted ws e r {x = r} zs (line_end_all le) le h in
+        let parted = gap_parted ws e r zs head h in
         let text = (pair_source q ++ ((d ∷ ds) ++ [])) ++ (joined span_source (gap r ∷ zs) ++ []) in
         let front : AreSpans o line_feed vs text =
         in_place-join span_source ws (gap e ∷ [])
-        (in_place-before span_source spans_local (ends_alike (r ++ joined span_source zs) [] [] text le)
+        (in_place-before span_source spans_local (head.alike (r ++ joined span_source zs) [] [] text)
         (in_place-split span_source ws (gap e ∷ gap r ∷ zs) parted).0)
-        (AreInPlace.more (IsSpan.is_gap (line_ends_gap e (line_end_all le))) AreInPlace.none) in
+        (AreInPlace.more (IsSpan.is_gap (head.is text)) AreInPlace.none) in
         let last : last_or line_feed (joined span_source vs)
         ≡ last_or (last_or line_feed (joined span_source ws)) e =
         ap (last_or line_feed) (joined-append span_source ws (gap e ∷ []))
@@ -200,12 +214,12 @@ module _ {o : ParseOption} (off : o.enabled_indented_mutiline_value ≡ false) (
         ∙ ap (last_or (last_or line_feed (joined span_source ws))) (append-nil e) in
         let starts : starts_line (last_or line_feed (joined span_source vs) ∷ []) ≡ true =
         ap (λ c. starts_line (c ∷ [])) last
-        ∙ line_end_starts (last_or line_feed (joined span_source ws)) le in
+        ∙ head.starts (last_or line_feed (joined span_source ws)) in
         let closes = line_end_closes d (and_parts (is_line_end d) (list_all is_line_end ds) end.all).0 in
         let there = left ws (gap e ∷ []) (gap r ∷ zs) parted in
         let column : BeginsWith is_comment_mark (joined span_source (gap r ∷ zs))
         → is_line_feed (last_or line_feed (joined span_source vs)) ≡ is_line_feed (last_or d ds) =
-        λ mark. elim (cases_Bool o.enabled_indented_comment) [
+        λ mark. elim (cases_Bool (notes_behind_return o)) [
           | inl on ↦ ap is_line_feed last ∙ end.same on (last_or line_feed (joined span_source ws))
           | inr none ↦
               spans_column_off none (gap r ∷ zs) (in_place-split span_source vs (gap r ∷ zs) there).1 mark
@@ -218,32 +232,32 @@ module _ {o : ParseOption} (off : o.enabled_indented_mutiline_value ≡ false) (
         (gaps_joined (vs ++ added ∷ []) (d ∷ ds) r zs
         (left vs (added ∷ []) (gap (d ∷ ds) ∷ gap r ∷ zs) put)))
 
-    -- a pair that nothing follows with its line ended
-    pub line_ended : {d : ℕ} {ds : Text} → IsNewEnd d ds → (xs zs : List Span) (p : PairPiece)
-        → AreSpans o line_feed (xs ++ (pair p.stretches p.key p.value ∷ gap [] ∷ zs)) []
-        → AreSpans o line_feed (xs ++ (pair (closed_stretches o p.stretches) p.key p.value ∷ gap (d ∷
-        ds) ∷ zs)) []
-    line_ended {d} {ds} end xs zs p h =
-        at (in_place-split span_source xs (pair p.stretches p.key p.value ∷ gap [] ∷ zs) h).1
-      where
-        c : ℕ
-        c = last_or line_feed (joined span_source xs)
+-- a pair in one line that nothing follows with its line ended
+pub line_ended : {o : ParseOption} {d : ℕ} {ds : Text} → IsNewEnd d ds → (xs zs : List Span) (p : PairPiece)
+    → is_multiline o p ≡ false → BeginsWithNo is_comment_mark (joined span_source zs ++ [])
+    → AreSpans o line_feed (xs ++ (pair p.stretches p.key p.value ∷ gap [] ∷ zs)) []
+    → AreSpans o line_feed
+    (xs ++ (pair (closed_stretches o p.stretches) p.key p.value ∷ gap (d ∷ ds) ∷ zs)) []
+line_ended {o} {d} {ds} end xs zs p one unmarked h =
+    at (in_place-split span_source xs (pair p.stretches p.key p.value ∷ gap [] ∷ zs) h).1
+  where
+    c : ℕ
+    c = last_or line_feed (joined span_source xs)
 
-        at : AreSpans o c (pair p.stretches p.key p.value ∷ gap [] ∷ zs) []
-            → AreSpans o line_feed
-            (xs ++ (pair (closed_stretches o p.stretches) p.key p.value ∷ gap (d ∷ ds) ∷ zs)) []
-        at (AreInPlace.more (IsSpan.is_pair is) rest) =
-            let following = joined span_source zs in
-            let closes : Closes plain_ends following =
-            subst (Closes plain_ends) (append-nil following) (value_closes off is.gives) in
-            let first = line_end_closes d (and_parts (is_line_end d) (list_all is_line_end ds) end.all).0 in
-            let new = closed_stretches o p.stretches in
-            in_place-exchanged span_source spans_local xs (pair p.stretches p.key p.value ∷ gap [] ∷ [])
-            (pair new p.key p.value ∷ gap (d ∷ ds) ∷ []) zs h
-            (AreInPlace.more
-            (IsSpan.is_pair (pair_closed is (no_tail off is.are_trailing) _ off first))
-            (AreInPlace.more (IsSpan.is_gap (line_ends_gap (d ∷ ds) end.all)) AreInPlace.none))
-            (keys_alike p.stretches.key p.stretches.separator (value_source p.stretches) (value_source
-            new) [] ((d ∷ ds) ++ [])
-            (following ++ []) (following ++ []))
-            (closed_agrees following closes)
+    at : AreSpans o c (pair p.stretches p.key p.value ∷ gap [] ∷ zs) []
+        → AreSpans o line_feed
+        (xs ++ (pair (closed_stretches o p.stretches) p.key p.value ∷ gap (d ∷ ds) ∷ zs)) []
+    at (AreInPlace.more (IsSpan.is_pair is) rest) =
+        let following = joined span_source zs in
+        let line = one_line is one in
+        let closes : Closes plain_ends following =
+        subst (Closes plain_ends) (append-nil following) (text_closes o (following ++ []) line.1 unmarked) in
+        let first = line_end_closes d (and_parts (is_line_end d) (list_all is_line_end ds) end.all).0 in
+        let new = closed_stretches o p.stretches in
+        in_place-exchanged span_source spans_local xs (pair p.stretches p.key p.value ∷ gap [] ∷ [])
+        (pair new p.key p.value ∷ gap (d ∷ ds) ∷ []) zs h
+        (AreInPlace.more (IsSpan.is_pair (pair_closed is line.0 _ one first))
+        (AreInPlace.more (IsSpan.is_gap (line_ends_gap (d ∷ ds) end.all)) AreInPlace.none))
+        (sources_alike is new (key_closing o p.stretches) (closed_key o p.stretches) [] ((d ∷ ds) ++ [])
+        (following ++ []) (following ++ []))
+        (closed_agrees following closes)

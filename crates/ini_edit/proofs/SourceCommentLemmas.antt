@@ -24,8 +24,8 @@ use Rattle.ini_edit.specs.SourcePlaces.{Place, exchanged, gap_put}
 use Rattle.ini_edit.specs.SourcePlaces.{last_before_section, edited_at, last_changed, pair_place}
 use Rattle.ini_edit.specs.SourcePlaces.{section_exchanged, with_end}
 use Rattle.ini_edit.specs.NewLines.{line_end_of}
-use Rattle.ini_edit.specs.Sources.{PairPiece, Pieces, SectionPiece, given_pair, given_section, sections_text}
-use Rattle.ini_edit.specs.Sources.{text_in}
+use Rattle.ini_edit.specs.Sources.{PairPiece, Pieces, SectionPiece, given_pair, given_section, is_multiline}
+use Rattle.ini_edit.specs.Sources.{sections_text, text_in}
 use Rattle.ini_edit.proofs.CommentRowLemmas.{IsNewLine}
 use Rattle.ini_edit.proofs.CommentSectionLemmas.{commented_sections}
 use Rattle.ini_edit.proofs.DeletedSourceLemmas.{first_document, taken_given}
@@ -64,7 +64,7 @@ rest_put_given o lines g s (p ∷ ps) after =
     ap (λ l. (s.name, l)) (ends_given (with_rest o lines g) kept p ps after)
   where
     kept : (q : PairPiece) → given_pair (with_rest o lines g q) ≡ given_pair q
-    kept q = by (o.enabled_indented_mutiline_value && is_empty q.after)
+    kept q = by (is_multiline o q && is_empty q.after)
       where
         by : (b : Bool) → given_pair (if b then with_end (q.stretches.trailing_lines ++ lines) (q.after ++ g)
             q

@@ -1,45 +1,49 @@
 -- A pair taken out of a text in pieces: what stays of the gap after it goes to the gap before it.
-use Rattle.std.proofs.Common.{◌≡◌, ◌∙◌, ℕ, true, false, List, [], ◌∷◌, ◌++◌, ap, append_assoc}
+use Rattle.std.proofs.Common.{◌≡◌, ◌∙◌, ◌&&◌, ℕ, true, false, List, [], ◌∷◌, ◌++◌, ap, append_assoc}
 use Rattle.std.proofs.Common.{append-nil, refl, subst, sym}
-use Rattle.ini_text.specs.Grammar.CharacterKinds.{BeginsWith, is_comment_mark, is_line_end}
-use Rattle.ini_text.specs.Grammar.CharacterKinds.{is_line_feed, line_feed}
+use Rattle.std.specs.Prelude.{is_some}
+use Rattle.ini_text.specs.Grammar.CharacterKinds.{BeginsWith, BeginsWithNo, carriage_return, is_comment_mark}
+use Rattle.ini_text.specs.Grammar.CharacterKinds.{is_line_end, is_line_feed, line_feed, space}
+use Rattle.ini_text.specs.Grammar.Elements.{Element, Gap}
 use Rattle.ini_text.specs.Grammar.Keys.{KeyFront}
-use Rattle.ini_text.specs.Grammar.Places.{Stretches, pair_source, value_source}
-use Rattle.ini_text.specs.Grammar.Positions.{last_or, starts_line}
+use Rattle.ini_text.specs.Grammar.Places.{Stretches, after_key_source, pair_source}
+use Rattle.ini_text.specs.Grammar.Positions.{last_or}
 use Rattle.ini_text.specs.Grammar.Strings.{Closes, plain_ends}
 use Rattle.ini_text.specs.Grammar.Values.{LineEnd}
 use Rattle.ini_text.specs.Laws.PieceLaws.{Agree}
 use Rattle.ini_text.specs.declared.option.ParseOption.{ParseOption}
 use Rattle.ini_text.proofs.LawLemmas.LocalLemmas.{Agree-front}
-use Rattle.ini_text.proofs.LawLemmas.OneAheadLemmas.{Alike, KeyFront-alike}
 use Rattle.ini_text.proofs.LawLemmas.PieceLemmas.{last_or-append}
+use Rattle.ini_text.proofs.ReaderLemmas.LineReaderLemmas.{TextEnds}
 use Rattle.ini.specs.Texts.{Text}
 use Rattle.ini_edit.specs.Inside.InPlace.{AreInPlace}
 use Rattle.ini_edit.specs.Inside.Spans.{AreSpans, IsGap, IsPair, IsSpan, Span, gap, pair, span_source}
 use Rattle.ini_edit.specs.Sources.{joined}
-use Rattle.ini_edit.proofs.AheadLemmas.{any_follows, value_closes}
-use Rattle.ini_edit.proofs.GapLemmas.{gap_cut, gap_like, gaps_joined}
+use Rattle.ini_edit.proofs.GapLemmas.{gap_join, gap_like, gap_more, gaps_joined, no_gap}
 use Rattle.ini_edit.proofs.InPlaceLemmas.{Agree-after, in_place-put, in_place-split}
-use Rattle.ini_edit.proofs.SourceRenameLemmas.{spans_ahead}
-use Rattle.ini_edit.proofs.SourceSetLemmas.{closed_agrees}
+use Rattle.ini_edit.proofs.LineCutLemmas.{LineHead, OwnCut, end_head, own_cut, text_closes}
+use Rattle.ini_edit.proofs.PairViewLemmas.{key_front_of, one_line}
+use Rattle.ini_edit.proofs.SourceSetLemmas.{closed_agrees, last_agrees}
 use Rattle.ini_edit.proofs.SpanLemmas.{spans_local}
 
--- What stays of a gap, before x, where the pair before it is taken out after a text that ends so: all; or
--- what follows its line end, if a line starts there, and a comment that follows stays in its column.
-pub data StaysOf (last : ℕ) (b x : Text) : Text → Type 0 where
-  all : StaysOf last b x b
-  after : {e c : Text} → b ≡ e ++ c → LineEnd e c → is_line_end last ≡ true
-      → (BeginsWith is_comment_mark (c ++ x) → (d : ℕ) → is_line_feed (last_or d e) ≡ is_line_feed last)
-      → StaysOf last b x c
+-- What stays of the gap b after a pair in one line, before x, where the pair is taken out after a text
+-- whose last character is so. A note goes with the pair. Its line end stays; or what follows that does, if
+-- a line starts there, and a comment that follows stays in its column; or a blank stands before it, where
+-- CR alone is the line end and a line starts there.
+pub data StaysOf (o : ParseOption) (last before : ℕ) (b x : Text) : Text → Type 0 where
+  nothing : b ≡ [] → BeginsWithNo is_comment_mark x → StaysOf o last before b x []
+  noted : Closes plain_ends (x ++ []) → StaysOf o last before b x []
+  kept : {f e c : Text} → b ≡ f ++ c → LineHead o before f c → LineEnd e c
+      → ((d : ℕ) → last_or d f ≡ last_or last e) → StaysOf o last before b x (e ++ c)
+  after : {f c : Text} → b ≡ f ++ c → LineHead o before f c → is_line_end last ≡ true
+      → (BeginsWith is_comment_mark (c ++ x) → (d : ℕ) → is_line_feed (last_or d f) ≡ is_line_feed last)
+      → StaysOf o last before b x c
+  blank : {f c : Text} → b ≡ f ++ c → LineHead o before f c → ((d : ℕ) → last_or d f ≡ carriage_return)
+      → is_line_end last ≡ true → StaysOf o last before b x (space ∷ carriage_return ∷ c)
 
--- a line end's last character ends a line
-ends_line : {e x : Text} (c : ℕ) → LineEnd e x → starts_line (last_or c e ∷ []) ≡ true
-ends_line c LineEnd.lf = refl
-ends_line c LineEnd.cr_lf = refl
-ends_line c (LineEnd.cr n) = refl
-
-module _ (o : ParseOption) (off : o.enabled_indented_mutiline_value ≡ false) (last : ℕ) (p : Stretches)
-    (key value b : Text) (zs : List Span) where
+module _ (o : ParseOption) (last : ℕ) (p : Stretches)
+    (off : (o.enabled_indented_mutiline_value && is_some p.separator) ≡ false) (key value b : Text)
+    (zs : List Span) where
   abbrev following : Text
   following = joined span_source zs
 
@@ -51,39 +55,71 @@ module _ (o : ParseOption) (off : o.enabled_indented_mutiline_value ≡ false) (
     is : IsGap o last c (following ++ [])
     agrees : Agree o (last_or after_pair b ∷ []) (last_or last c ∷ []) following
 
-  stays_all : IsPair o last p key value ((b ++ following) ++ []) → IsGap o after_pair b (following ++ [])
-      → Stays b
-  stays_all is g =
-      let closes = subst (Closes plain_ends) (append-nil (b ++ following)) (value_closes off is.gives) in
-      let agree : Agree o (after_pair ∷ []) (last ∷ []) (b ++ following) =
-      closed_agrees (b ++ following) closes in
-      record { is = gap_like (Agree-front following agree) g; agrees = Agree-after b following agree }
+  stays_closed : Closes plain_ends (following ++ []) → Stays []
+  stays_closed closes = record {
+    is = no_gap;
+    agrees = closed_agrees following (subst (Closes plain_ends) (append-nil following) closes);
+  }
 
-  stays_after : {e c : Text} → b ≡ e ++ c → LineEnd e c → is_line_end last ≡ true
+  last_parted : (f c : Text) → b ≡ f ++ c → last_or after_pair b ≡ last_or (last_or after_pair f) c
+  last_parted f c same = ap (last_or after_pair) same ∙ last_or-append after_pair f c
+
+  cut_there : {f c : Text} → b ≡ f ++ c → LineHead o after_pair f c → IsGap o after_pair b (following ++ [])
+      → IsGap o (last_or after_pair f) c (following ++ [])
+  cut_there same head g =
+      head.rest (following ++ []) (subst (λ t. IsGap o after_pair t (following ++ [])) same g)
+
+  stays_after : {f c : Text} → b ≡ f ++ c → LineHead o after_pair f c → is_line_end last ≡ true
       → (BeginsWith is_comment_mark (c ++ following) → (d : ℕ)
-      → is_line_feed (last_or d e) ≡ is_line_feed last)
+      → is_line_feed (last_or d f) ≡ is_line_feed last)
       → IsGap o after_pair b (following ++ []) → Stays c
-  stays_after {e} {c} same end line column g =
-      let ended = last_or after_pair e in
-      let cut : IsGap o ended c (following ++ []) =
-      gap_cut end (subst (λ t. IsGap o after_pair t (following ++ [])) same g) in
-      let last_is : last_or after_pair b ≡ last_or ended c =
-      ap (last_or after_pair) same ∙ last_or-append after_pair e c in
+  stays_after {f} {c} same head line column g =
+      let ended = last_or after_pair f in
       let agree : Agree o (ended ∷ []) (last ∷ []) (c ++ following) = record {
-        line = λ m. ends_line after_pair end ∙ sym line;
+        line = λ m. head.starts after_pair ∙ sym line;
         column = λ m. column m after_pair;
-        comment = λ _ m. ends_line after_pair end ∙ sym line;
+        comment = λ _ m. head.starts after_pair ∙ sym line;
       } in
       record {
-        is = gap_like (Agree-front following agree) cut;
-        agrees = subst (λ z. Agree o (z ∷ []) (last_or last c ∷ []) following) (sym last_is)
+        is = gap_like (Agree-front following agree) (cut_there same head g);
+        agrees = subst (λ z. Agree o (z ∷ []) (last_or last c ∷ []) following) (sym (last_parted f c same))
             (Agree-after c following agree);
       }
 
-  stays_put : {c : Text} → StaysOf last b following c → IsPair o last p key value ((b ++ following) ++ [])
-      → IsGap o after_pair b (following ++ []) → AreSpans o (last_or after_pair b) zs [] → Stays c
-  stays_put StaysOf.all is g rest = stays_all is g
-  stays_put (StaysOf.after same end line column) is g rest = stays_after same end line column g
+  stays_kept : {f e c : Text} → b ≡ f ++ c → LineHead o after_pair f c → LineEnd e c
+      → ((d : ℕ) → last_or d f ≡ last_or last e) → IsGap o after_pair b (following ++ []) → Stays (e ++ c)
+  stays_kept {f} {e} {c} same head end ends g =
+      let there : LineHead o last e c = end_head last end in
+      record {
+        is = gap_join (there.is (c ++ (following ++ [])))
+            (subst (λ z. IsGap o z c (following ++ [])) (ends after_pair) (cut_there same head g));
+        agrees = last_agrees (last_parted f c same ∙ ap (λ z. last_or z c) (ends after_pair)
+            ∙ sym (last_or-append last e c));
+      }
+
+  stays_blank : {f c : Text} → b ≡ f ++ c → LineHead o after_pair f c
+      → ((d : ℕ) → last_or d f ≡ carriage_return) → is_line_end last ≡ true
+      → IsGap o after_pair b (following ++ []) → Stays (space ∷ carriage_return ∷ c)
+  stays_blank {f} {c} same head return line g =
+      let cut : IsGap o carriage_return c (following ++ []) =
+      subst (λ z. IsGap o z c (following ++ [])) (return after_pair) (cut_there same head g) in
+      record {
+        is = gap_more (Element.gap (Gap.blank_line {w = space ∷ []} carriage_return
+            (record { at_line_start = line; some = refl; blank = refl }) refl)) cut;
+        agrees = last_agrees (last_parted f c same ∙ ap (λ z. last_or z c) (return after_pair));
+      }
+
+  stays_put : {c : Text} → StaysOf o last after_pair b following c
+      → IsPair o last p key value ((b ++ following) ++ []) → IsGap o after_pair b (following ++ []) → Stays c
+  stays_put (StaysOf.nothing none unmarked) is g =
+      let ends : TextEnds o (following ++ []) =
+      subst (λ t. TextEnds o ((t ++ following) ++ [])) none (one_line is off).1 in
+      stays_closed (text_closes o (following ++ []) ends
+      (subst (BeginsWithNo is_comment_mark) (sym (append-nil following)) unmarked))
+  stays_put (StaysOf.noted closes) is g = stays_closed closes
+  stays_put (StaysOf.kept same head end ends) is g = stays_kept same head end ends g
+  stays_put (StaysOf.after same head line column) is g = stays_after same head line column g
+  stays_put (StaysOf.blank same head return line) is g = stays_blank same head return line g
 
 -- what stands before a key stands before any text
 abbrev pub StandsBefore : ParseOption → List Span → Type 0
@@ -108,24 +144,25 @@ module _ {o : ParseOption} (xs : List Span) (a b : Text) (p : Stretches) (key va
   pair_and_rest =
       (in_place-split span_source (xs ++ gap a ∷ []) (pair p key value ∷ gap b ∷ zs) in_two).1
 
-  key_there : {r : Text} → AreSpans o last_there (pair p key value ∷ gap b ∷ zs) []
-      → KeyFront o (last_there ∷ []) p.key (p.separator ∷ r) key
-  key_there (AreInPlace.more (IsSpan.is_pair is) later) = KeyFront-alike Alike.same is.key_front
+  key_there : AreSpans o last_there (pair p key value ∷ gap b ∷ zs) []
+      → KeyFront o (last_there ∷ []) p.key (after_key_source p ++ ((b ++ following_text) ++ [])) key
+  key_there (AreInPlace.more (IsSpan.is_pair is) later) = key_front_of is
 
   pub pair_to_gap : (c : Text) → StandsBefore o (xs ++ gap a ∷ [])
       → IsGap o last_there c (following_text ++ [])
-      → Agree o (last_or (last_or last_there (pair_source p)) b ∷ []) (last_or last_there c ∷ []) following_text
+      → Agree o (last_or (last_or last_there (pair_source p)) b ∷ [])
+      (last_or last_there c ∷ []) following_text
       → AreSpans o line_feed (xs ++ (gap (a ++ c) ∷ zs)) []
   pair_to_gap c stands is agrees =
       let front = xs ++ gap a ∷ [] in
       let rest = joined span_source zs in
       let text : (pair_source p ++ (b ++ rest)) ++ []
-      ≡ p.key ++ p.separator ∷ (value_source p ++ ((b ++ rest) ++ [])) =
+      ≡ p.key ++ (after_key_source p ++ ((b ++ rest) ++ [])) =
       append_assoc (pair_source p) (b ++ rest) []
-      ∙ append_assoc p.key (p.separator ∷ value_source p) ((b ++ rest) ++ []) in
+      ∙ append_assoc p.key (after_key_source p) ((b ++ rest) ++ []) in
       let before = (in_place-split span_source front (pair p key value ∷ gap b ∷ zs) in_two).0 in
       let ahead : AreSpans o line_feed front ((c ++ []) ++ (rest ++ [])) =
-      stands p.key (p.separator ∷ (value_source p ++ ((b ++ rest) ++ []))) key ((c ++ []) ++ (rest ++ []))
+      stands p.key (after_key_source p ++ ((b ++ rest) ++ [])) key ((c ++ []) ++ (rest ++ []))
       (key_there pair_and_rest) (subst (AreSpans o line_feed front) text before) in
       let ends : Agree o (last_or last_there (pair_source p ++ (b ++ [])) ∷ [])
       (last_or last_there (c ++ []) ∷ [])
@@ -140,21 +177,26 @@ module _ {o : ParseOption} (xs : List Span) (a b : Text) (p : Stretches) (key va
       (in_place-put span_source spans_local front (pair p key value ∷ gap b ∷ []) (gap c ∷ []) zs in_two
       ahead (AreInPlace.more (IsSpan.is_gap is) AreInPlace.none) ends))
 
--- where values are in one line
-pub spans_deleted : {o : ParseOption} (off : o.enabled_indented_mutiline_value ≡ false) (xs : List Span)
-    (a b : Text) (p : Stretches) (key value : Text) (zs : List Span) {c : Text}
+-- where the pair is in one line
+pub spans_deleted : {o : ParseOption} (xs : List Span) (a b : Text) (p : Stretches) (key value : Text)
+    (zs : List Span) {c : Text}
+    → (o.enabled_indented_mutiline_value && is_some p.separator) ≡ false
     → AreSpans o line_feed (xs ++ (gap a ∷ pair p key value ∷ gap b ∷ zs)) []
-    → StaysOf (last_or line_feed (joined span_source (xs ++ gap a ∷ []))) b (joined span_source zs) c
-    → AreSpans o line_feed (xs ++ (gap (a ++ c) ∷ zs)) []
-spans_deleted {o} off xs a b p key value zs {c} whole stays = at (pair_and_rest xs a b p key value zs whole)
+    → (OwnCut o (last_or (last_or line_feed (joined span_source (xs ++ gap a ∷ []))) (pair_source p)) b
+    (joined span_source zs ++ [])
+    → StaysOf o (last_or line_feed (joined span_source (xs ++ gap a ∷ [])))
+    (last_or (last_or line_feed (joined span_source (xs ++ gap a ∷ []))) (pair_source p)) b
+    (joined span_source zs) c)
+    → StandsBefore o (xs ++ gap a ∷ []) → AreSpans o line_feed (xs ++ (gap (a ++ c) ∷ zs)) []
+spans_deleted {o} xs a b p key value zs {c} off whole stays stands =
+    at (pair_and_rest xs a b p key value zs whole)
   where
-    stands : StandsBefore o (xs ++ gap a ∷ [])
-    stands k r key x front before = spans_ahead (any_follows x off) (xs ++ gap a ∷ []) front before
-
     at : AreSpans o (last_or line_feed (joined span_source (xs ++ gap a ∷ [])))
         (pair p key value ∷ gap b ∷ zs) []
         → AreSpans o line_feed (xs ++ (gap (a ++ c) ∷ zs)) []
     at (AreInPlace.more (IsSpan.is_pair is) (AreInPlace.more (IsSpan.is_gap g) later)) =
         let last = last_or line_feed (joined span_source (xs ++ gap a ∷ [])) in
-        let made = stays_put o off last p key value b zs stays is g later in
+        let there : IsPair o last p key value (b ++ (joined span_source zs ++ [])) =
+        subst (IsPair o last p key value) (append_assoc b (joined span_source zs) []) is in
+        let made = stays_put o last p off key value b zs (stays (own_cut there off g)) is g in
         pair_to_gap xs a b p key value zs whole c stands made.is made.agrees

@@ -5,13 +5,14 @@ use Rattle.std.proofs.lemmas.Bool.{cond-false, cond-true}
 use Rattle.std.proofs.lemmas.List.{length-append}
 use Rattle.std.specs.List.{list_any}
 use Rattle.ini_text.specs.Grammar.CharacterKinds.{is_line_feed, line_feed}
-use Rattle.ini_text.specs.Grammar.Places.{Stretches, pair_source, value_source}
+use Rattle.ini_text.specs.Grammar.Places.{Stretches, pair_source, separator_text, value_source}
 use Rattle.ini_text.specs.Grammar.Positions.{column_of, last_line, line_of}
 use Rattle.ini_text.proofs.LawLemmas.MovedLemmas.{column_of-after, line_of-after}
 use Rattle.ini_text.proofs.StringLemmas.ScanLemmas.{last_or_append}
 use Rattle.ini.specs.Texts.{Text}
 use Rattle.ini_edit.specs.Inside.SourceElementWalks.{passed, passed_character, placed_from}
-use Rattle.ini_edit.specs.SourceElements.{ContentPiece, ElementPiece, content_text, counted, placed_contents, position_of}
+use Rattle.ini_edit.specs.SourceElements.{ContentPiece, ElementPiece, content_text, counted}
+use Rattle.ini_edit.specs.SourceElements.{placed_contents, position_of}
 use Rattle.ini_edit.specs.SourceLines.{is_empty}
 use Rattle.ini_edit.specs.Sources.{PairPiece}
 use Rattle.ini_edit.specs.declared.source.elements.Position.{Position}
@@ -85,24 +86,21 @@ placed_after front (c ∷ cs) =
     ap (λ p. at ∷ placed_from p cs) (passed-position front (content_text c.1))
     ∙ ap (λ es. at ∷ es) (placed_after (front ++ content_text c.1) cs)
 
-some_after : (s t : Text) (c : ℕ) → is_empty (s ++ c ∷ t) ≡ false
-some_after [] t c = refl
-some_after (d ∷ s) t c = refl
-
-pub some_pair : (p : PairPiece) → is_empty (pair_source p.stretches) ≡ false
-some_pair p = some_after p.stretches.key (value_source p.stretches) p.stretches.separator
-
 pub onward : {p q : Position} {s t : Text} → p ≡ q → s ≡ t → passed p s ≡ passed q t
 onward {q = q} {s = s} same alike = ap (λ p. passed p s) same ∙ ap (passed q) alike
 
 -- a pair is gone over part by part
-pub passed_pair : (p : Position) (s : Stretches) → passed (passed (passed (passed (passed_character
-    (passed p s.key) s.separator) s.space_before) s.raw_value) s.space_after) s.trailing_lines
+pub passed_pair : (p : Position) (s : Stretches) → passed (passed (passed (passed (passed
+    (passed p (s.key ++ separator_text s.separator)) s.space_before) s.raw_value) s.space_after) s.note)
+    s.trailing_lines
     ≡ passed p (pair_source s)
 passed_pair p s =
-    let at = passed_character (passed p s.key) s.separator in
+    let key = s.key ++ separator_text s.separator in
+    let at = passed p key in
     let white = passed at s.space_before in
-    sym (passed-append p s.key (s.separator ∷ value_source s)
-    ∙ passed-append at s.space_before (s.raw_value ++ (s.space_after ++ s.trailing_lines))
-    ∙ passed-append white s.raw_value (s.space_after ++ s.trailing_lines)
-    ∙ passed-append (passed white s.raw_value) s.space_after s.trailing_lines)
+    sym (ap (passed p) (sym (append_assoc s.key (separator_text s.separator) (value_source s)))
+    ∙ passed-append p key (value_source s)
+    ∙ passed-append at s.space_before (s.raw_value ++ (s.space_after ++ (s.note ++ s.trailing_lines)))
+    ∙ passed-append white s.raw_value (s.space_after ++ (s.note ++ s.trailing_lines))
+    ∙ passed-append (passed white s.raw_value) s.space_after (s.note ++ s.trailing_lines)
+    ∙ passed-append (passed (passed white s.raw_value) s.space_after) s.note s.trailing_lines)

@@ -12,43 +12,41 @@ use Rattle.ini_text.specs.Parsing.Items.{string_text}
 use Rattle.ini_text.specs.declared.option.ParseOption.{ParseOption}
 use Rattle.ini_text.proofs.StringLemmas.FrontLemmas.{front_is}
 use Rattle.ini.specs.Texts.{Text}
-use Rattle.ini_edit.specs.Inside.SourceEnds.{IsKept, end_put_last, put_after_kept, raw_value_of, takes_lines}
-use Rattle.ini_edit.specs.Inside.SourceEnds.{trailing_of, with_new_end}
+use Rattle.ini_edit.specs.Inside.SourceEnds.{IsKept, end_put_last, put_after_kept, takes_lines}
+use Rattle.ini_edit.specs.Inside.SourceEnds.{trailing_of, with_new_end, word_of}
 use Rattle.ini_edit.specs.Inside.Spans.{span_source}
 use Rattle.ini_edit.specs.SourceEdits.{with_pairs}
-use Rattle.ini_edit.specs.SourceEditsAdd.{closed_value}
+use Rattle.ini_edit.specs.SourceEditsAdd.{closed, closed_word}
 use Rattle.ini_edit.specs.SourceEditsDelete.{line_end_after, lines_after, with_rest}
 use Rattle.ini_edit.specs.SourceEditsSections.{is_pair_ended, rest_before_header, with_last_closed}
 use Rattle.ini_edit.specs.SourceLines.{comments_at_end, indentation_at_end, is_empty}
-use Rattle.ini_edit.specs.SourcePlaces.{gap_of, is_nil, last_gap, with_after, with_end, with_raw_value}
-use Rattle.ini_edit.specs.Sources.{PairPiece, SectionPiece, joined, section_text}
+use Rattle.ini_edit.specs.SourcePlaces.{gap_of, last_gap, last_word, with_after, with_end}
+use Rattle.ini_edit.specs.SourcePlaces.{with_last_word}
+use Rattle.ini_edit.specs.Sources.{PairPiece, SectionPiece, is_multiline, joined, section_text}
 use Rattle.ini_edit.specs.declared.source.pair.ends.NewEnd.{NewEnd}
 use Rattle.ini_edit.proofs.SectionEndLemmas.{LastOf, last_of, put_one}
 use Rattle.ini_edit.proofs.SourcePartLemmas.{rest_after, rest_taken, take_before, to_last}
-use Rattle.ini_edit.proofs.SourcePlaceLemmas.{end_put-end, gap_of-end, last_changed-end, trailing_of-end}
+use Rattle.ini_edit.proofs.SourcePlaceLemmas.{end_put-end, ends_in_value-end, gap_of-end, last_changed-end}
+use Rattle.ini_edit.proofs.SourcePlaceLemmas.{same_word, trailing_of-end, word_lines, word_multiline}
 use Rattle.ini_edit.proofs.SourceSpanLemmas.{spans_to_gap, text_to_gap}
 
-no_nil : {A : Type 0} (xs : List A) (x : A) → is_nil (xs ++ x ∷ []) ≡ false
-no_nil [] x = refl
-no_nil (y ∷ ys) x = refl
+swapped : (a b : Bool) → (a && b) ≡ (b && a)
+swapped true true = refl
+swapped true false = refl
+swapped false true = refl
+swapped false false = refl
+
+-- without pairs no lines are taken, and else where the gap begins with them
+module _ (o : ParseOption) (kept : Text) where
+  takes_none : takes_lines o kept [] ≡ false
+  takes_none = and_right (is_empty kept) false refl
+
+  pub takes_last : (ps : List PairPiece) (p : PairPiece)
+      → takes_lines o kept (ps ++ p ∷ []) ≡ (is_multiline o p && is_empty kept)
+  takes_last ps p =
+      ap (λ b. is_empty kept && b) (ends_in_value-end o ps p) ∙ swapped (is_empty kept) (is_multiline o p)
 
 module _ (o : ParseOption) (kept lines rest : Text) where
-  -- without pairs no lines are taken, and else where the gap begins with them
-  takes_none : takes_lines o kept [] ≡ false
-  takes_none =
-      and_right o.enabled_indented_mutiline_value (is_empty kept && false)
-      (and_right (is_empty kept) false refl)
-
-  takes_last : (ps : List PairPiece) (p : PairPiece)
-      → takes_lines o kept (ps ++ p ∷ []) ≡ (o.enabled_indented_mutiline_value && is_empty kept)
-  takes_last ps p =
-      ap (λ b. o.enabled_indented_mutiline_value && (is_empty kept && not b)) (no_nil ps p)
-      ∙ ap (λ b. o.enabled_indented_mutiline_value && b) (all (is_empty kept))
-    where
-      all : (b : Bool) → (b && true) ≡ b
-      all true = refl
-      all false = refl
-
   -- the last pair changed, and its last parts put in
   last_kept : (s : SectionPiece) (ps : List PairPiece) (p q : PairPiece) (e : NewEnd)
       → with_new_end e p ≡ with_rest o lines rest (record q { after = kept })
@@ -58,28 +56,24 @@ module _ (o : ParseOption) (kept lines rest : Text) where
       end_put-end (with_pairs s (ps ++ p ∷ [])) ps p [] e ∙ ap (λ r. with_pairs s (ps ++ r ∷ [])) put
       ∙ sym (put_one o kept lines rest (with_pairs s (ps ++ q ∷ [])) ps q refl)
 
-  -- a pair's last parts, where its raw value is another
-  new_end_kept : (p : PairPiece) (b : Bool) (raw : Text) {t g : Text}
-      → (o.enabled_indented_mutiline_value && is_empty kept) ≡ b
+  -- a pair's last parts
+  new_end_kept : (p : PairPiece) (b : Bool) {t g : Text} → (is_multiline o p && is_empty kept) ≡ b
       → t ≡ cond b (p.stretches.trailing_lines ++ lines) p.stretches.trailing_lines
       → g ≡ cond b (kept ++ rest) (kept ++ (lines ++ rest))
-      → with_end t g (with_raw_value raw p)
-      ≡ with_rest o lines rest (record (with_raw_value raw p) { after = kept })
-  new_end_kept p true raw is is_t is_g =
-      rest_taken o lines rest (record (with_raw_value raw p) { after = kept }) is is_t is_g
-  new_end_kept p false raw is is_t is_g =
-      rest_after o lines rest (record (with_raw_value raw p) { after = kept }) is is_t
-      (is_g ∙ sym (append_assoc kept lines rest))
+      → with_end t g p ≡ with_rest o lines rest (record p { after = kept })
+  new_end_kept p true is is_t is_g = rest_taken o lines rest (record p { after = kept }) is is_t is_g
+  new_end_kept p false is is_t is_g =
+      rest_after o lines rest (record p { after = kept }) is is_t (is_g ∙ sym (append_assoc kept lines rest))
 
   module _ (s : SectionPiece) (e : NewEnd) (raw : Option (String Global)) where
     abbrev with_raw : NewEnd
-    with_raw = record { raw_value = raw; trailing_lines = e.trailing_lines; after = e.after }
+    with_raw = record { last_word = raw; trailing_lines = e.trailing_lines; after = e.after }
 
-    -- with the last pair's raw value closed, or not
+    -- with the last pair's last word closed, or not
     abbrev ClosesInto : Bool → List PairPiece → Type 0
     ClosesInto closes ps =
         ((front : List PairPiece) (p : PairPiece) → ps ≡ front ++ p ∷ []
-        → raw_value_of p.stretches.raw_value raw ≡ cond closes (closed_value o p) p.stretches.raw_value)
+        → word_of (last_word p) raw ≡ cond closes (closed_word o p) (last_word p))
         → IsKept o kept lines rest ps e
         → end_put_last with_raw (with_pairs s ps)
         ≡ put_after_kept o kept lines rest (with_last_closed o closes (with_pairs s ps))
@@ -88,7 +82,7 @@ module _ (o : ParseOption) (kept lines rest : Text) where
     none_closed closes raw_is is = at closes
       where
         text : string_text e.after ≡ kept ++ (lines ++ rest)
-        text = is.after ∙ cond-false (takes_lines o kept []) _ _ takes_none
+        text = is.after ∙ cond-false (takes_lines o kept []) _ _ (takes_none o kept)
 
         at : (closes : Bool) → end_put_last with_raw (with_pairs s [])
             ≡ put_after_kept o kept lines rest (with_last_closed o closes (with_pairs s []))
@@ -100,35 +94,38 @@ module _ (o : ParseOption) (kept lines rest : Text) where
     last_closed closes front p raw_is is = at closes (raw_is front p refl)
       where
         b : Bool
-        b = o.enabled_indented_mutiline_value && is_empty kept
+        b = is_multiline o p && is_empty kept
 
         lines_is : string_text e.trailing_lines
             ≡ cond b (p.stretches.trailing_lines ++ lines) p.stretches.trailing_lines
         lines_is = is.trailing_lines
             ∙ ap (λ x. cond x (trailing_of (front ++ p ∷ []) ++ lines) (trailing_of (front ++ p ∷ [])))
-            (takes_last front p)
+            (takes_last o kept front p)
             ∙ ap (λ t. cond b (t ++ lines) t) (trailing_of-end front p)
 
         after_is : string_text e.after ≡ cond b (kept ++ rest) (kept ++ (lines ++ rest))
-        after_is = is.after ∙ ap (λ x. cond x (kept ++ rest) (kept ++ (lines ++ rest))) (takes_last front p)
+        after_is = is.after ∙ ap (λ x. cond x (kept ++ rest) (kept ++ (lines ++ rest))) (takes_last o kept front p)
 
-        put : (new : Text) → raw_value_of p.stretches.raw_value raw ≡ new
+        put : (new : Text) → word_of (last_word p) raw ≡ new
             → end_put_last with_raw (with_pairs s (front ++ p ∷ []))
-            ≡ put_after_kept o kept lines rest (with_pairs s (front ++ with_raw_value new p ∷ []))
+            ≡ put_after_kept o kept lines rest (with_pairs s (front ++ with_last_word new p ∷ []))
         put new same =
-            last_kept s front p (with_raw_value new p) with_raw
-            (ap (λ r. with_end (string_text e.trailing_lines) (string_text e.after) (with_raw_value r p)) same
-            ∙ new_end_kept p b new refl lines_is after_is)
+            let q = with_last_word new p in
+            last_kept s front p q with_raw
+            (ap (λ r. with_end (string_text e.trailing_lines) (string_text e.after) (with_last_word r p)) same
+            ∙ new_end_kept q b (ap (λ m. m && is_empty kept) (word_multiline o new p))
+            (lines_is ∙ ap (λ t. cond b (t ++ lines) t) (sym (word_lines new p))) after_is)
 
-        at : (closes : Bool)
-            → raw_value_of p.stretches.raw_value raw ≡ cond closes (closed_value o p) p.stretches.raw_value
+        at : (closes : Bool) → word_of (last_word p) raw ≡ cond closes (closed_word o p) (last_word p)
             → end_put_last with_raw (with_pairs s (front ++ p ∷ []))
             ≡ put_after_kept o kept lines rest (with_last_closed o closes (with_pairs s (front ++ p ∷ [])))
         at true same =
-            put (closed_value o p) same
+            put (closed_word o p) same
             ∙ ap (λ ps. put_after_kept o kept lines rest (with_pairs s ps))
-            (sym (last_changed-end (λ p. with_raw_value (closed_value o p) p) front p))
-        at false same = put p.stretches.raw_value same
+            (sym (last_changed-end (closed o) front p))
+        at false same =
+            put (last_word p) same
+            ∙ ap (λ q. put_after_kept o kept lines rest (with_pairs s (front ++ q ∷ []))) (same_word p)
 
     pub closed_put : (closes : Bool) → ClosesInto closes s.pairs
     closed_put closes = at (last_of s.pairs)
@@ -140,8 +137,8 @@ module _ (o : ParseOption) (kept lines rest : Text) where
   pub kept_put : (s : SectionPiece) (e : NewEnd) → IsKept o kept lines rest s.pairs e
       → end_put_last e s ≡ put_after_kept o kept lines rest s
   kept_put s e is =
-      ap (λ r. end_put_last (record { raw_value = r; trailing_lines = e.trailing_lines; after = e.after }) s)
-      is.raw_value
+      ap (λ r. end_put_last (record { last_word = r; trailing_lines = e.trailing_lines; after = e.after }) s)
+      is.last_word
       ∙ closed_put s e None false (λ front p same. refl) is
 
 pub take_count : {A : Type 0} (xs : List A) (n : ℕ) → n ≡ length xs → take n xs ≡ xs

@@ -8,8 +8,8 @@ use Rattle.ini.specs.Properties.{Pairs}
 use Rattle.ini.specs.Texts.{Text, is_name, is_text}
 use Rattle.ini.proofs.KeepingLemmas.{name_refl, names_equal, text_refl, texts_equal}
 use Rattle.ini_edit.specs.Inside.SourceLayouts.{all_same, says_same_pair, says_same_section}
-use Rattle.ini_edit.specs.SourceEntries.{PairEntry, SectionEntry, comments_in, entries_in, pair_entry}
-use Rattle.ini_edit.specs.SourceEntries.{section_entry}
+use Rattle.ini_edit.specs.SourceEntries.{PairEntry, SectionEntry, behind_value, comments_in, entries_in}
+use Rattle.ini_edit.specs.SourceEntries.{pair_entry, section_entry}
 use Rattle.ini_edit.specs.Sources.{PairPiece, Pieces, SectionPiece, document_in, given_pair, given_section}
 use Rattle.ini_edit.proofs.LayoutLemmas.{here}
 
@@ -77,19 +77,23 @@ pair_of key value comments = record { key = key; value = value; comments = comme
 abbrev section_of : Option Text → Text → List PairEntry → SectionEntry
 section_of name comments pairs = record { name = name; comments = comments; pairs = pairs }
 
+-- the comments behind a pair's value
+abbrev behind : PairPiece → Text
+behind p = comments_in (behind_value p.stretches p.after)
+
 pair_same : (p q : PairPiece) → says_same_pair p q ≡ true → pair_entry p ≡ pair_entry q
 pair_same p q h =
     let key = and_parts (is_text p.key q.key) _ h in
     let value = and_parts (is_text p.value q.value) _ key.1 in
-    ap (λ k. pair_of k p.value (comments_in p.after)) (texts_equal p.key q.key key.0)
-    ∙ ap (λ v. pair_of q.key v (comments_in p.after)) (texts_equal p.value q.value value.0)
-    ∙ ap (λ c. pair_of q.key q.value c) (texts_equal (comments_in p.after) (comments_in q.after) value.1)
+    ap (λ k. pair_of k p.value (behind p)) (texts_equal p.key q.key key.0)
+    ∙ ap (λ v. pair_of q.key v (behind p)) (texts_equal p.value q.value value.0)
+    ∙ ap (λ c. pair_of q.key q.value c) (texts_equal (behind p) (behind q) value.1)
 
 pair_says : (p q : PairPiece) → pair_entry p ≡ pair_entry q → says_same_pair p q ≡ true
 pair_says p q h =
     ap₂ (λ a b. a && b) (texts_fit p.key q.key (ap (λ e. e.key) h))
     (ap₂ (λ a b. a && b) (texts_fit p.value q.value (ap (λ e. e.value) h))
-    (texts_fit (comments_in p.after) (comments_in q.after) (ap (λ e. e.comments) h)))
+    (texts_fit (behind p) (behind q) (ap (λ e. e.comments) h)))
 
 section_same : (s t : SectionPiece) → says_same_section s t ≡ true → section_entry s ≡ section_entry t
 section_same s t h =

@@ -17,12 +17,13 @@ use Rattle.ini.specs.Texts.{Text}
 use Rattle.ini_edit.specs.Inside.SourceEnds.{IsFound, IsNewPair, IsNoPlaceOrMemory, IsPairAt, IsPlaceAt}
 use Rattle.ini_edit.specs.Inside.SourceEnds.{IsSetAt, last_before, made_pair, style_at}
 use Rattle.ini_edit.specs.Inside.Spans.{AreSections}
-use Rattle.ini_edit.specs.SourceEdits.{with_pairs, with_value}
+use Rattle.ini_edit.specs.SourceEdits.{with_pairs}
 use Rattle.ini_edit.specs.SourceEditsAdd.{pair_put_last}
 use Rattle.ini_edit.specs.SourceEditsAdded.{added_at, new_line_end}
 use Rattle.ini_edit.specs.SourceEditsAt.{IsAddedAtIndex, IsSetAtIndex, RefusesAtIndex, at_index, at_section}
 use Rattle.ini_edit.specs.SourceEditsAt.{deleted_at_index, indexed_pair, indexed_place}
 use Rattle.ini_edit.specs.SourceEditsDelete.{deleted_at, pair_taken_out}
+use Rattle.ini_edit.specs.SourceEditsSet.{with_value_before}
 use Rattle.ini_edit.specs.SourcePlaces.{PairPlace, Place, edited_at, exchanged, is_nil, last_before_section}
 use Rattle.ini_edit.specs.SourcePlaces.{one_on}
 use Rattle.ini_edit.specs.SourceWritten.{IsFirstReadAs, IsWritableNew, Style, value_forms}
@@ -34,7 +35,7 @@ use Rattle.ini_edit.proofs.AddSourceLemmas.{made_there, put_so, put_there, stand
 use Rattle.ini_edit.proofs.DeletedSourceLemmas.{placed_in, taken_given}
 use Rattle.ini_edit.proofs.PairAddLemmas.{gives_last}
 use Rattle.ini_edit.proofs.SourcePlaceLemmas.{place_read, place_remove, place_set, place_take}
-use Rattle.ini_edit.proofs.SourceWrittenLemmas.{here_read}
+use Rattle.ini_edit.proofs.SourceWrittenLemmas.{before_given, here_read}
 use Rattle.ini_edit.proofs.TakenLemmas.{sections_taken}
 
 -- the place at an index that a list has, and none where it hasn't
@@ -146,7 +147,10 @@ module _ {o : ParseOption} {policy : EscapePolicy} {value : Text} {ss : List Sec
         document = section_edited at.section new (at_index j (λ q. (q.0, value)))
             (ap given_section there_set.is
             ∙ ap (λ g. (h.name, g))
-            (map-append given_pair p.before (with_value there_set.source value p.here ∷ p.after)
+            (map-append given_pair p.before
+            (with_value_before o there_set.source value p.after p.here ∷ p.after)
+            ∙ ap (λ g. map given_pair p.before ++ g ∷ map given_pair p.after)
+            (before_given o there_set.source value p.after p.here)
             ∙ sym (place_edited (place_seen at.pair given_pair) (λ q. (q.0, value)))));
       }
 

@@ -10,8 +10,11 @@ use Rattle.ini.specs.Texts.{Text}
 use Rattle.ini_text.specs.Grammar.CharacterKinds.{is_blank, is_comment_mark, is_line_end}
 use Rattle.ini_text.specs.Grammar.CharacterKinds.{is_line_feed}
 use Rattle.ini_text.specs.Grammar.Positions.{last_or}
-use Rattle.ini_text.specs.Inside.PlainTests.{begins}
+use Rattle.ini_text.specs.Grammar.CharacterKinds.{begins}
+use Rattle.ini_text.specs.Inside.LineReader.{past_note}
+use Rattle.ini_text.specs.Inside.Scans.{is_line_part, run_of, skipped}
 use Rattle.ini_text.specs.Parsing.Fronts.{IsRest, front_of}
+use Rattle.ini_text.proofs.ReaderLemmas.RunReaderLemmas.{run-sound}
 use Rattle.ini_text.proofs.StringLemmas.FrontLemmas.{front_grows, front_is}
 use Rattle.ini_text.specs.declared.option.ParseOption.{ParseOption}
 use Rattle.ini_edit.specs.SourceLines.{is_blank_or_line_end}
@@ -58,6 +61,13 @@ all_or b c cs r h =
 or_all : (b : Bool) (c : ℕ) (cs r : Text) → IsRest cs r → IsRest (c ∷ cs) (cond b r (c ∷ cs))
 or_all b c cs r h =
     cond_both b r (c ∷ cs) (λ x. IsRest (c ∷ cs) x) (λ e. rest_under c cs r h) (λ e. all_rest (c ∷ cs))
+
+-- what follows a note
+pub past_note-rest : (o : ParseOption) (t : Text) → IsRest t (past_note o t)
+past_note-rest o t =
+    cond_both (o.enabled_inline_comment && begins is_comment_mark t) (skipped is_line_part t) t (IsRest t)
+    (λ on. rest_from (run_of is_line_part t) (skipped is_line_part t) t (run-sound is_line_part t).whole)
+    (λ off. all_rest t)
 
 -- the words for lines
 pub after_line_feed-rest : (t : Text) → IsRest t (after_line_feed t)

@@ -8,7 +8,7 @@ use Rattle.std.specs.Option.{option_or}
 use Rattle.ini.specs.Texts.{Text}
 use Rattle.ini_text.specs.Grammar.CharacterKinds.{is_blank, is_comment_mark, is_line_end, is_line_feed}
 use Rattle.ini_text.specs.Grammar.CharacterKinds.{line_feed, space, tab}
-use Rattle.ini_text.specs.Inside.PlainTests.{begins}
+use Rattle.ini_text.specs.Grammar.CharacterKinds.{begins}
 use Rattle.ini_text.specs.declared.option.ParseOption.{ParseOption}
 use Rattle.ini_edit.specs.SourceLines.{after_comment, after_comments, are_comments, are_quiet}
 use Rattle.ini_edit.specs.SourceLines.{CommentState, begins_solid, blanks_at_end, comments_at_end}

@@ -1,12 +1,12 @@
 -- The parts of a pair and of a section, as the code puts them together.
 use Rattle.std.proofs.Common.{◌≡◌, ◌∙◌, ◌<◌, ◌≤◌, ◌+◌, ◌-◌, ◌&&◌, ℕ, true, false, cond, List, [], ◌∷◌, ◌++◌}
 use Rattle.std.proofs.Common.{length, None, Some, get_or, drop, set, take, ap, append-nil, append_assoc}
-use Rattle.std.proofs.Common.{arith, refl, suc, sym}
+use Rattle.std.proofs.Common.{Option, arith, eq-eqb, nat_eq, not, refl, suc, sym}
 use Rattle.std.proofs.lemmas.Bool.{cond-false, cond-true}
-use Rattle.std.proofs.lemmas.List.{drop_all, get_or_default, set_split, take-append-drop, take_more}
+use Rattle.std.proofs.lemmas.List.{drop_all, set_split, take-append-drop, take_more}
 use Rattle.std.specs.Option.{option_or}
 use Rattle.ini_text.specs.Grammar.CharacterKinds.{is_line_end}
-use Rattle.ini_text.specs.Grammar.Places.{Stretches, pair_source, value_source}
+use Rattle.ini_text.specs.Grammar.Places.{Stretches, pair_source, separator_text, value_source}
 use Rattle.ini_text.specs.Grammar.Positions.{last_or, starts_line}
 use Rattle.ini_text.specs.Parsing.Fronts.{front_of}
 use Rattle.ini_text.specs.declared.option.ParseOption.{ParseOption}
@@ -19,7 +19,8 @@ use Rattle.ini_edit.specs.SourceEditsDelete.{rest_put, with_rest}
 use Rattle.ini_edit.specs.SourceLines.{is_empty}
 use Rattle.ini_edit.specs.SourcePlaces.{last_before_gap, text_up_to, with_end}
 use Rattle.ini_edit.specs.SourceWritten.{last_that_begins}
-use Rattle.ini_edit.specs.Sources.{PairPiece, SectionPiece, pair_text, pairs_text}
+use Rattle.ini_edit.specs.Sources.{PairPiece, SectionPiece, has_separator, is_multiline, pair_text}
+use Rattle.ini_edit.specs.Sources.{pairs_text}
 use Rattle.ini_edit.specs.declared.source.pair.ends.NewEnd.{NewEnd}
 use Rattle.ini_edit.proofs.FirstLemmas.{rest_here}
 use Rattle.ini_edit.proofs.InPlaceLemmas.{joined-append, joined-more}
@@ -27,35 +28,47 @@ use Rattle.ini_edit.proofs.SourcePlaceLemmas.{end_put-end, gap_of-end, rest_put-
 
 -- the last character of a pair's source, one stretch after another
 pub source_last : (c : ℕ) (p : Stretches)
-    → last_or (last_or (last_or (last_or p.separator p.space_before) p.raw_value) p.space_after)
-    p.trailing_lines ≡ last_or c (pair_source p)
+    → last_or (last_or (last_or (last_or (last_or (last_or c (p.key ++ separator_text p.separator))
+    p.space_before) p.raw_value) p.space_after) p.note) p.trailing_lines ≡ last_or c (pair_source p)
 source_last c p =
-    let value = last_or (last_or p.separator p.space_before) p.raw_value in
-    sym (last_or-append c p.key (p.separator ∷ value_source p)
-    ∙ last_or-append p.separator p.space_before (p.raw_value ++ (p.space_after ++ p.trailing_lines))
-    ∙ last_or-append (last_or p.separator p.space_before) p.raw_value (p.space_after ++ p.trailing_lines)
-    ∙ last_or-append value p.space_after p.trailing_lines)
+    let key = p.key ++ separator_text p.separator in
+    let at = last_or c key in
+    let value = last_or (last_or at p.space_before) p.raw_value in
+    sym (ap (last_or c) (sym (append_assoc p.key (separator_text p.separator) (value_source p)))
+    ∙ last_or-append c key (value_source p)
+    ∙ last_or-append at p.space_before (p.raw_value ++ (p.space_after ++ (p.note ++ p.trailing_lines)))
+    ∙ last_or-append (last_or at p.space_before) p.raw_value (p.space_after ++ (p.note ++ p.trailing_lines))
+    ∙ last_or-append value p.space_after (p.note ++ p.trailing_lines)
+    ∙ last_or-append (last_or value p.space_after) p.note p.trailing_lines)
 
-pub source_ends : (p : Stretches) {a b d e : ℕ} {value lines : Text}
-    → a ≡ last_or p.separator p.space_before → value ≡ p.raw_value → b ≡ last_or a value
-    → d ≡ last_or b p.space_after → lines ≡ p.trailing_lines → e ≡ last_or d lines
-    → (c : ℕ) → e ≡ last_or c (pair_source p)
-source_ends p {a} {b} {d} {e} is_a is_value is_b is_d is_lines is_e c =
-    is_e ∙ ap (last_or d) is_lines
-    ∙ ap (λ x. last_or x p.trailing_lines) (is_d ∙ ap (λ x. last_or x p.space_after)
-    (is_b ∙ ap (last_or a) is_value ∙ ap (λ x. last_or x p.raw_value) is_a))
-    ∙ source_last c p
+pub source_ends : (c : ℕ) (p : Stretches) {a b d e f g : ℕ} {before value after note lines : Text}
+    → a ≡ last_or c (p.key ++ separator_text p.separator) → before ≡ p.space_before → b ≡ last_or a before
+    → value ≡ p.raw_value → d ≡ last_or b value → after ≡ p.space_after → e ≡ last_or d after
+    → note ≡ p.note → g ≡ last_or e note → lines ≡ p.trailing_lines → f ≡ last_or g lines
+    → f ≡ last_or c (pair_source p)
+source_ends c p is_a is_before is_b is_value is_d is_after is_e is_note is_g is_lines is_f =
+    let all = source_last c p in cc
 
-pub text_ends : (p : PairPiece) {e f : ℕ} {gap : Text} → ((c : ℕ) → e ≡ last_or c (pair_source p.stretches))
-    → gap ≡ p.after → f ≡ last_or e gap → (c : ℕ) → f ≡ last_or c (pair_text p)
-text_ends p {e} {f} source is_gap is_f c =
-    is_f ∙ ap (last_or e) is_gap ∙ ap (λ x. last_or x p.after) (source c)
+pub text_ends : (c : ℕ) (p : PairPiece) {e f : ℕ} {gap : Text} → e ≡ last_or c (pair_source p.stretches)
+    → gap ≡ p.after → f ≡ last_or e gap → f ≡ last_or c (pair_text p)
+text_ends c p {e} {f} source is_gap is_f =
+    is_f ∙ ap (last_or e) is_gap ∙ ap (λ x. last_or x p.after) source
     ∙ sym (last_or-append c (pair_source p.stretches) p.after)
+
+-- an empty text ends in what stands before it, and no other one does
+pub ends_in_front : (t : Text) → not (nat_eq (last_or 10 t) (last_or 13 t)) ≡ is_empty t
+ends_in_front [] = refl
+ends_in_front (c ∷ t) = ap not (eq-eqb (last_or c t) (last_or c t) refl)
+
+-- the last character of a text that has one, whatever stands before it
+pub some_last : (c d : ℕ) (t : Text) → is_empty t ≡ false → last_or c t ≡ last_or d t
+some_last c d [] h = absurd (let no : true ≡ false = h in cc)
+some_last c d (x ∷ t) h = refl
 
 -- a pair's text after a front, one stretch after another
 pub after_stretches : (front : Text) (p : PairPiece)
-    → (((((front ++ p.stretches.key) ++ p.stretches.separator ∷ []) ++ p.stretches.space_before)
-    ++ p.stretches.raw_value) ++ p.stretches.space_after) ++ p.stretches.trailing_lines
+    → ((((((front ++ p.stretches.key) ++ separator_text p.stretches.separator) ++ p.stretches.space_before)
+    ++ p.stretches.raw_value) ++ p.stretches.space_after) ++ p.stretches.note) ++ p.stretches.trailing_lines
     ≡ front ++ pair_source p.stretches
 after_stretches front p = simp append_assoc
 
@@ -70,13 +83,14 @@ pub before_index : {A : Type 0} {xs ys : List A} {i j : ℕ} {x : A} → (1 ≤ 
 before_index {ys = ys} {i} {j} {x} at within same is =
     take_before ys i j x (omega arith) (omega arith) (is ∙ ap (λ l. get_or l j x) same)
 
-pub search_parts : (front : Text) (p : PairPiece) {key separator before value after lines gap : Text}
-    → key ≡ p.stretches.key → separator ≡ p.stretches.separator ∷ [] → before ≡ p.stretches.space_before
-    → value ≡ p.stretches.raw_value → after ≡ p.stretches.space_after → lines ≡ p.stretches.trailing_lines
-    → gap ≡ p.after
-    → ((((((front ++ key) ++ separator) ++ before) ++ value) ++ after) ++ lines) ++ gap
+pub search_parts : (front : Text) (p : PairPiece) {key separator before value after note lines gap : Text}
+    → key ≡ p.stretches.key → separator ≡ separator_text p.stretches.separator
+    → before ≡ p.stretches.space_before
+    → value ≡ p.stretches.raw_value → after ≡ p.stretches.space_after → note ≡ p.stretches.note
+    → lines ≡ p.stretches.trailing_lines → gap ≡ p.after
+    → (((((((front ++ key) ++ separator) ++ before) ++ value) ++ after) ++ note) ++ lines) ++ gap
     ≡ front ++ pair_text p
-search_parts front p is_key is_separator is_before is_value is_after is_lines is_gap =
+search_parts front p is_key is_separator is_before is_value is_after is_note is_lines is_gap =
     let all = ap (λ t. t ++ p.after) (after_stretches front p)
     ∙ append_assoc front (pair_source p.stretches) p.after in cc
 
@@ -91,16 +105,16 @@ to_last s ps p =
     ∙ append_assoc s.header (s.after ++ pairs_text ps) (source ++ p.after)
     ∙ ap (λ t. s.header ++ t) (append_assoc s.after (pairs_text ps) (source ++ p.after)))
 
-pub before_gap_last : (front c : ℕ) (s : SectionPiece) (ps : List PairPiece) (p : PairPiece)
-    → last_before_gap front s (ps ++ p ∷ []) ≡ last_or c (pair_source p.stretches)
-before_gap_last front c s ps p =
+pub before_gap_last : (front : ℕ) (s : SectionPiece) (ps : List PairPiece) (p : PairPiece)
+    → last_before_gap front s (ps ++ p ∷ [])
+    ≡ last_or (last_or front (text_up_to s ps)) (pair_source p.stretches)
+before_gap_last front s ps p =
     let up_to = text_up_to s ps in
     let source = pair_source p.stretches in
     ap (λ g. last_or front (front_of (text_up_to s (ps ++ p ∷ [])) g)) (gap_of-end s.after ps p)
     ∙ ap (last_or front) (front_is (up_to ++ source) p.after (text_up_to s (ps ++ p ∷ []))
     (sym (to_last s ps p)))
     ∙ last_or-append front up_to source
-    ∙ sym (source_last (last_or front up_to) p.stretches) ∙ source_last c p.stretches
 
 pub before_gap_header : (front : ℕ) (s : SectionPiece) → last_before_gap front s [] ≡ last_or front s.header
 before_gap_header front s =
@@ -154,20 +168,20 @@ rest_pushed o lines gap {s} {t} {i} {j} {x} {y} same at all is put =
 
 -- lines and a gap after a pair
 module _ (o : ParseOption) (lines gap : Text) (p : PairPiece) {t g : Text} where
-  pub rest_taken : (o.enabled_indented_mutiline_value && is_empty p.after) ≡ true
+  pub rest_taken : (is_multiline o p && is_empty p.after) ≡ true
       → t ≡ p.stretches.trailing_lines ++ lines → g ≡ p.after ++ gap
       → with_end t g p ≡ with_rest o lines gap p
   rest_taken taken is_t is_g =
       ap (λ x. with_end x g p) is_t ∙ ap (λ x. with_end (p.stretches.trailing_lines ++ lines) x p) is_g
-      ∙ sym (cond-true (o.enabled_indented_mutiline_value && is_empty p.after) _ _ taken)
+      ∙ sym (cond-true (is_multiline o p && is_empty p.after) _ _ taken)
 
-  pub rest_after : (o.enabled_indented_mutiline_value && is_empty p.after) ≡ false
+  pub rest_after : (is_multiline o p && is_empty p.after) ≡ false
       → t ≡ p.stretches.trailing_lines → g ≡ (p.after ++ lines) ++ gap
       → with_end t g p ≡ with_rest o lines gap p
   rest_after apart is_t is_g =
       ap (λ x. with_end x g p) is_t
       ∙ ap (λ x. with_end p.stretches.trailing_lines x p) (is_g ∙ append_assoc p.after lines gap)
-      ∙ sym (cond-false (o.enabled_indented_mutiline_value && is_empty p.after) _ _ apart)
+      ∙ sym (cond-false (is_multiline o p && is_empty p.after) _ _ apart)
 
 -- one pair more of a section's text, and those that are left
 module _ (front : Text) (s : SectionPiece) (xs : List PairPiece) (i : ℕ) (x : PairPiece) where
@@ -191,36 +205,36 @@ rest_of_pairs front s xs i =
     ∙ ap (λ t. s.after ++ t) (sym (joined-append pair_text (take i xs) (drop i xs))
     ∙ ap pairs_text (take-append-drop i xs))))
 
--- the last of pairs that begins a line
+-- the last of pairs that begins a line and has a separator
 pub begins_last : (front : Text) (ps : List PairPiece) (p : PairPiece)
-    → starts_line (front ++ pairs_text ps) ≡ true → last_that_begins front (ps ++ p ∷ []) ≡ Some p
+    → (starts_line (front ++ pairs_text ps) && has_separator p) ≡ true
+    → last_that_begins front (ps ++ p ∷ []) ≡ Some p
 begins_last front [] p h =
-    cond-true (starts_line front) (Some p) None (ap starts_line (sym (append-nil front)) ∙ h)
+    cond-true (starts_line front && has_separator p) (Some p) None
+    (ap (λ t. starts_line t && has_separator p) (sym (append-nil front)) ∙ h)
 begins_last front (q ∷ ps) p h =
-    ap (λ l. option_or l (cond (starts_line front) (Some q) None))
+    ap (λ l. option_or l (cond (starts_line front && has_separator q) (Some q) None))
     (begins_last (front ++ pair_text q) ps p
-    (ap starts_line (append_assoc front (pair_text q) (pairs_text ps)) ∙ h))
+    (ap (λ t. starts_line t && has_separator p) (append_assoc front (pair_text q) (pairs_text ps)) ∙ h))
 
 pub begins_earlier : (front : Text) (ps : List PairPiece) (p : PairPiece)
-    → starts_line (front ++ pairs_text ps) ≡ false
+    → (starts_line (front ++ pairs_text ps) && has_separator p) ≡ false
     → last_that_begins front (ps ++ p ∷ []) ≡ last_that_begins front ps
 begins_earlier front [] p h =
-    cond-false (starts_line front) (Some p) None (ap starts_line (sym (append-nil front)) ∙ h)
+    cond-false (starts_line front && has_separator p) (Some p) None
+    (ap (λ t. starts_line t && has_separator p) (sym (append-nil front)) ∙ h)
 begins_earlier front (q ∷ ps) p h =
-    ap (λ l. option_or l (cond (starts_line front) (Some q) None))
+    ap (λ l. option_or l (cond (starts_line front && has_separator q) (Some q) None))
     (begins_earlier (front ++ pair_text q) ps p
-    (ap starts_line (append_assoc front (pair_text q) (pairs_text ps)) ∙ h))
+    (ap (λ t. starts_line t && has_separator p) (append_assoc front (pair_text q) (pairs_text ps)) ∙ h))
 
-pub begins_before : (front : Text) (xs : List PairPiece) (i j : ℕ) → (1 ≤ i) × (j ≡ i - 1) → i ≤ length xs
-    → starts_line (front ++ pairs_text (take j xs)) ≡ false
+pub begins_before : (front : Text) (xs : List PairPiece) (i j : ℕ) (x : PairPiece)
+    → (1 ≤ i) × (j ≡ i - 1) → i ≤ length xs → x ≡ get_or xs j x
+    → (starts_line (front ++ pairs_text (take j xs)) && has_separator x) ≡ false
     → last_that_begins front (take i xs) ≡ last_that_begins front (take j xs)
-begins_before front [] i j at within starts = absurd (omega (arith, at.0, within))
-begins_before front (x ∷ xs) i j at within starts =
-    let y = get_or (x ∷ xs) j x in
-    let inside : j < length (x ∷ xs) = omega (arith, at.0, at.1, within) in
-    ap (last_that_begins front)
-    (before_index {xs = x ∷ xs} at within refl (get_or_default (x ∷ xs) j x y inside))
-    ∙ begins_earlier front (take j (x ∷ xs)) y starts
+begins_before front xs i j x at within is starts =
+    ap (last_that_begins front) (before_index {xs = xs} at within refl is)
+    ∙ begins_earlier front (take j xs) x starts
 
 pub starts_after : (front : ℕ) (s : SectionPiece) (ps : List PairPiece)
     → starts_line ((front ∷ (s.header ++ s.after)) ++ pairs_text ps)

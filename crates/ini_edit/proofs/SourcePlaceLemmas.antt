@@ -13,9 +13,10 @@ use Rattle.ini.specs.Texts.{Text}
 use Rattle.ini_edit.specs.Inside.SourceEnds.{IsFound, IsPlaceAt, end_put, trailing_of, with_new_end}
 use Rattle.ini_edit.specs.Inside.SourceSteps.{IsFirstAt}
 use Rattle.ini_edit.specs.SourceEdits.{first_fitting, with_pairs}
-use Rattle.ini_edit.specs.SourceEditsDelete.{rest_put, with_rest}
-use Rattle.ini_edit.specs.SourcePlaces.{Place, exchanged, gap_of, gap_put, last_changed, nth_place, one_on}
-use Rattle.ini_edit.specs.Sources.{PairPiece, SectionPiece}
+use Rattle.ini_edit.specs.SourceEditsDelete.{ends_in_value, rest_put, with_rest}
+use Rattle.ini_edit.specs.SourcePlaces.{Place, exchanged, gap_of, gap_put, last_changed, last_word}
+use Rattle.ini_edit.specs.SourcePlaces.{nth_place, one_on, with_last_word, with_raw_key, with_raw_value}
+use Rattle.ini_edit.specs.Sources.{PairPiece, SectionPiece, has_separator, is_multiline}
 use Rattle.ini_edit.specs.declared.source.pair.ends.NewEnd.{NewEnd}
 use Rattle.ini_edit.proofs.FirstLemmas.{first_stands, rest_here}
 
@@ -230,6 +231,45 @@ pub trailing_of-end : (ps : List PairPiece) (p : PairPiece)
 trailing_of-end [] p = refl
 trailing_of-end (q ∷ []) p = refl
 trailing_of-end (q ∷ r ∷ ps) p = trailing_of-end (r ∷ ps) p
+
+pub ends_in_value-end : (o : ParseOption) (ps : List PairPiece) (p : PairPiece)
+    → ends_in_value o (ps ++ p ∷ []) ≡ is_multiline o p
+ends_in_value-end o [] p = refl
+ends_in_value-end o (q ∷ []) p = refl
+ends_in_value-end o (q ∷ r ∷ ps) p = ends_in_value-end o (r ∷ ps) p
+
+-- what another last word leaves as it was
+pub word_kept : {A : Type 0} (part : PairPiece → A) (word : Text) (p : PairPiece)
+    → part (with_raw_value word p) ≡ part p → part (with_raw_key word p) ≡ part p
+    → part (with_last_word word p) ≡ part p
+word_kept part word p value key = by (has_separator p)
+  where
+    by : (b : Bool) → part (cond b (with_raw_value word p) (with_raw_key word p)) ≡ part p
+    by true = value
+    by false = key
+
+pub word_separator : (word : Text) (p : PairPiece)
+    → (with_last_word word p).stretches.separator ≡ p.stretches.separator
+word_separator word p = word_kept (λ q. q.stretches.separator) word p refl refl
+
+pub word_lines : (word : Text) (p : PairPiece)
+    → (with_last_word word p).stretches.trailing_lines ≡ p.stretches.trailing_lines
+word_lines word p = word_kept (λ q. q.stretches.trailing_lines) word p refl refl
+
+pub word_multiline : (o : ParseOption) (word : Text) (p : PairPiece)
+    → is_multiline o (with_last_word word p) ≡ is_multiline o p
+word_multiline o word p = word_kept (is_multiline o) word p refl refl
+
+-- the same last word put in
+pub same_word : (p : PairPiece) → with_last_word (last_word p) p ≡ p
+same_word p = by (has_separator p)
+  where
+    word : Bool → Text
+    word b = cond b p.stretches.raw_value p.stretches.key
+
+    by : (b : Bool) → cond b (with_raw_value (word b) p) (with_raw_key (word b) p) ≡ p
+    by true = refl
+    by false = refl
 
 last_put : (f : PairPiece → PairPiece) (s : SectionPiece) (ps : List PairPiece) (p : PairPiece)
     (after : List PairPiece)

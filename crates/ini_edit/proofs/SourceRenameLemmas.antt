@@ -1,21 +1,26 @@
 -- A pair's key, and a section's name, written anew in a text in pieces.
 use Rattle.std.proofs.Common.{◌≡◌, ◌∙◌, ◌==◌, ℕ, false, true, ◌&&◌, List, [], ◌∷◌, ◌++◌, append_assoc}
-use Rattle.std.proofs.Common.{Bool, None, Option, Some, ap, append-nil, eqb-true, get_or, inl, inr, map}
+use Rattle.std.proofs.Common.{Bool, None, Option, Some, ap, append-nil, eqb-true, get_or, if◌then◌else◌, inl}
+use Rattle.std.proofs.Common.{inr, map}
 use Rattle.std.proofs.Common.{refl, set, subst, sym}
-use Rattle.std.proofs.lemmas.Bool.{false≢true}
+use Rattle.std.proofs.lemmas.Bool.{both_ways, cond-false, cond-true, false≢true}
 use Rattle.std.proofs.lemmas.List.Folds.{list_all-append}
 use Rattle.std.specs.List.{list_all}
 use Rattle.std.specs.Prelude.{is_some}
 use Rattle.ini_text.specs.Escaping.EscapedTexts.{escaped}
-use Rattle.ini_text.specs.Grammar.CharacterKinds.{BeginsWith, close_bracket, line_feed, open_bracket}
-use Rattle.ini_text.specs.Grammar.Places.{pair_source, value_source}
+use Rattle.ini_text.specs.Grammar.CharacterKinds.{BeginsWith, BeginsWithNo, begins, close_bracket}
+use Rattle.ini_text.specs.Grammar.CharacterKinds.{is_comment_mark, line_feed, open_bracket}
+use Rattle.ini_text.specs.Grammar.Keys.{KeyFront}
+use Rattle.ini_text.specs.Grammar.Places.{after_key_source, pair_source, separator_text, value_source}
 use Rattle.ini_text.specs.Grammar.Positions.{last_or}
+use Rattle.ini_text.specs.Grammar.Strings.{Closes, key_ends, plain_ends}
 use Rattle.ini_text.specs.Laws.PieceLaws.{Agree, BeginAlike}
 use Rattle.ini_text.specs.Laws.Plain.{IsPlainName}
 use Rattle.ini_text.specs.declared.option.ParseOption.{ParseOption}
 use Rattle.ini_text.specs.declared.write.policy.EscapePolicy.{EscapePolicy}
 use Rattle.ini_text.proofs.LawLemmas.OneAheadLemmas.{Alike, KeyFront-alike}
 use Rattle.ini_text.proofs.LawLemmas.PieceLemmas.{last_or-append}
+use Rattle.ini_text.proofs.StringLemmas.ScanLemmas.{last_or_append}
 use Rattle.ini.specs.Edits.{key_renamed, rename_key_in, section_renamed}
 use Rattle.ini.specs.Texts.{Text, is_name, is_text}
 use Rattle.ini.proofs.KeepingLemmas.{names_equal}
@@ -25,14 +30,20 @@ use Rattle.ini_edit.specs.Inside.Spans.{AreSections, AreSpans, BeginGeneral, IsP
 use Rattle.ini_edit.specs.Inside.Spans.{gap, opening, pair, pairs_spans, sections_spans, span_source}
 use Rattle.ini_edit.specs.Renamed.{HasEdges, IsPlainBareKey}
 use Rattle.ini_edit.specs.Sections.{header_of}
-use Rattle.ini_edit.specs.SourceEdits.{RenamesKeyIn, RenamesNameIn, first_changed, first_fitting}
+use Rattle.ini_edit.specs.SourceEdits.{RenamesKeyIn, RenamesNameIn, blanks_before_note, first_changed}
+use Rattle.ini_edit.specs.SourceEdits.{first_fitting}
 use Rattle.ini_edit.specs.SourceEdits.{key_changed, pair_changed, with_header, with_key, with_pairs}
+use Rattle.ini_edit.specs.SourceLines.{blanks_at_end}
 use Rattle.ini_edit.specs.Sources.{PairPiece, Pieces, SectionPiece, given_pair, given_section, joined}
 use Rattle.ini_edit.proofs.FirstLemmas.{changed_first, first_stands, renamed_first, stands_there}
-use Rattle.ini_edit.proofs.HeaderLemmas.{header_anew, header_bracket, plain_closes, str_closes}
+use Rattle.ini_edit.proofs.HeaderLemmas.{NameEnds, StayBehind, blanks_last, header_anew, header_bracket}
+use Rattle.ini_edit.proofs.HeaderLemmas.{name_ends, plain_bare, plain_closes}
 use Rattle.ini_edit.proofs.InPlaceLemmas.{in_place-before, in_place-exchanged, in_place-put, in_place-split}
-use Rattle.ini_edit.proofs.NewKeyLemmas.{in_place}
+use Rattle.ini_edit.proofs.NewKeyLemmas.{EndsKey, ends_key, in_place}
+use Rattle.ini_edit.proofs.NextPairLemmas.{unmarked_after}
+use Rattle.ini_edit.proofs.PairViewLemmas.{closes_line, key_front_of, some_key}
 use Rattle.ini_edit.proofs.QuietLemmas.{IsHeader, as_header}
+use Rattle.ini_edit.proofs.SectionBeginLemmas.{names_after}
 use Rattle.ini_edit.proofs.SourceReadLemmas.{sections_spans-append}
 use Rattle.ini_edit.proofs.SourceSetLemmas.{as_edit, changed_sections, closed_agrees, found_there}
 use Rattle.ini_edit.proofs.SourceSetLemmas.{last_agrees}
@@ -53,24 +64,99 @@ module _ {o : ParseOption} {policy : EscapePolicy} {other : Text} (plain : IsPla
   renamed_pair = pair (with_key new_source other p).stretches other p.value
 
   abbrev after_keys : Text → Text
-  after_keys rest = p.stretches.separator ∷ (value_source p.stretches ++ (rest ++ []))
+  after_keys rest = after_key_source p.stretches ++ (rest ++ [])
 
   was_text : (rest : Text) → (pair_source p.stretches ++ rest) ++ [] ≡ p.stretches.key ++ after_keys rest
   was_text rest =
       append_assoc (pair_source p.stretches) rest []
-      ∙ append_assoc p.stretches.key (p.stretches.separator ∷ value_source p.stretches) (rest ++ [])
+      ∙ append_assoc p.stretches.key (after_key_source p.stretches) (rest ++ [])
 
   is_text_new : (rest : Text)
       → (span_source renamed_pair ++ []) ++ (rest ++ []) ≡ new_source ++ after_keys rest
   is_text_new rest =
       ap (λ t. t ++ (rest ++ [])) (append-nil (span_source renamed_pair))
-      ∙ append_assoc new_source (p.stretches.separator ∷ value_source p.stretches) (rest ++ [])
+      ∙ append_assoc new_source (after_key_source p.stretches) (rest ++ [])
 
-  same_last : (c : ℕ) → last_or c (pair_source p.stretches ++ []) ≡ last_or c (span_source renamed_pair ++ [])
-  same_last c =
-      let value = p.stretches.separator ∷ value_source p.stretches in
-      ap (last_or c) (append-nil (pair_source p.stretches)) ∙ last_or-append c p.stretches.key value
-      ∙ sym (last_or-append c new_source value) ∙ ap (last_or c) (sym (append-nil (span_source renamed_pair)))
+  same_last : (c m : ℕ) → p.stretches.separator ≡ Some m
+      → last_or c (pair_source p.stretches ++ []) ≡ last_or c (span_source renamed_pair ++ [])
+  same_last c m is =
+      let value = m ∷ value_source p.stretches in
+      let same : after_key_source p.stretches ≡ value =
+      ap (λ x. separator_text x ++ value_source p.stretches) is in
+      ap (last_or c) (append-nil (pair_source p.stretches)) ∙ ap (λ t. last_or c (p.stretches.key ++ t)) same
+      ∙ last_or-append c p.stretches.key value
+      ∙ sym (last_or-append c new_source value)
+      ∙ sym (ap (last_or c) (append-nil (span_source renamed_pair))
+      ∙ ap (λ t. last_or c (new_source ++ t)) same)
+
+  -- so is white space that stays at the key's end
+  pad_last : (c d : ℕ) (i k white : Text) → pad ≡ white ++ d ∷ [] → last_or c (i ++ (k ++ pad)) ≡ d
+  pad_last c d i k white is =
+      ap (λ t. last_or c (i ++ (k ++ t))) is
+      ∙ ap (λ t. last_or c (i ++ t)) (sym (append_assoc k white (d ∷ [])))
+      ∙ ap (last_or c) (sym (append_assoc i (k ++ white) (d ∷ []))) ∙ last_or_append c d (i ++ (k ++ white))
+
+  lone_last : (c d : ℕ) (white : Text) → after_key_source p.stretches ≡ [] → pad ≡ white ++ d ∷ []
+      → last_or c (pair_source p.stretches ++ []) ≡ last_or c (span_source renamed_pair ++ [])
+  lone_last c d white none is =
+      let alone : (k : Text) → (k ++ after_key_source p.stretches) ++ [] ≡ k = λ k.
+      append-nil (k ++ after_key_source p.stretches) ∙ ap (λ t. k ++ t) none ∙ append-nil k in
+      ap (last_or c) (alone p.stretches.key ∙ edges.whole) ∙ pad_last c d indent edges.own white is
+      ∙ sym (ap (last_or c) (alone new_source) ∙ pad_last c d indent (escaped policy other) white is)
+
+  -- the pair with the new key, and what follows it as it was
+  new_pair : {c : ℕ} {r : Text} → IsPair o c p.stretches p.key p.value r
+      → KeyFront o (c ∷ []) new_source (after_key_source p.stretches ++ r) other
+      → IsPair o c (with_key new_source other p).stretches other p.value r
+  new_pair {c} {r} (IsPair.has_value is) front = IsPair.has_value (record {
+    separator = is.separator;
+    separator_is = is.separator_is;
+    key_front = KeyFront-alike Alike.same
+        (subst (λ m. KeyFront o (c ∷ []) new_source
+        ((separator_text m ++ value_source p.stretches) ++ r) other)
+        is.separator_is front);
+    some = plain.bare.some;
+    separates = is.separates;
+    gives = is.gives;
+    white_before = is.white_before;
+    starts = is.starts;
+    white_after = is.white_after;
+    are_trailing = is.are_trailing;
+    own_lines = is.own_lines;
+    note = is.note;
+    closed = is.closed;
+    unnoted = is.unnoted;
+  })
+  new_pair {c} {r} (IsPair.is_lone is) front = IsPair.is_lone (record {
+    lone = record {
+      may_be = is.lone.may_be;
+      no_separator = is.lone.no_separator;
+      nothing = is.lone.nothing;
+      empty = is.lone.empty;
+      next = is.lone.next;
+    };
+    key_front = subst (λ t. KeyFront o (c ∷ []) new_source (t ++ r) other)
+        (ap (λ m. separator_text m ++ value_source p.stretches) is.lone.no_separator ∙ is.lone.nothing)
+        front;
+    some = plain.bare.some;
+  })
+
+  -- and that is read as before
+  new_agrees : {c : ℕ} {r : Text} (x : Text) → r ≡ x → IsPair o c p.stretches p.key p.value r
+      → Agree o (last_or c (pair_source p.stretches ++ []) ∷ [])
+      (last_or c (span_source renamed_pair ++ []) ∷ []) x
+  new_agrees {c} x same (IsPair.has_value is) = last_agrees (same_last c is.separator is.separator_is)
+  new_agrees {c} {r} x same (IsPair.is_lone is) = at (ends_key is.key_front is.some edges)
+    where
+      at : EndsKey o pad r → Agree o (last_or c (pair_source p.stretches ++ []) ∷ [])
+          (last_or c (span_source renamed_pair ++ []) ∷ []) x
+      at (EndsKey.at_key_end closes) =
+          closed_agrees x (subst (Closes plain_ends) same
+          (closes_line r (subst (λ line. Closes (key_ends line) r) is.lone.may_be closes) is.lone.next))
+      at (EndsKey.before_note white d is_pad note) =
+          let none : after_key_source p.stretches ≡ [] =
+          ap (λ m. separator_text m ++ value_source p.stretches) is.lone.no_separator ∙ is.lone.nothing in
+          last_agrees (lone_last c d white none is_pad)
 
   pub spans_renamed : (front rest : List Span)
       → AreSpans o line_feed (front ++ (pair p.stretches p.key p.value ∷ rest)) []
@@ -89,32 +175,19 @@ module _ {o : ParseOption} {policy : EscapePolicy} {other : Text} (plain : IsPla
           → AreSpans o c (pair p.stretches p.key p.value ∷ rest) []
           → AreSpans o line_feed (front ++ (renamed_pair ∷ rest)) []
       at before (AreInPlace.more (IsSpan.is_pair is) later) =
-          let r = value_source p.stretches ++ (following ++ []) in
-          let place = in_place plain pad edges.white_pad p.stretches.separator is.separates r indent
-          is.key_front edges in
+          let key_front = key_front_of is in
+          let place = in_place plain pad edges.white_pad (after_keys following)
+          (ends_key key_front (some_key is) edges) indent key_front edges in
           let was = subst (AreSpans o line_feed front) (was_text following) before in
           let stays : AreSpans o line_feed front (new_source ++ after_keys following) = elim place.ahead [
             | inl alike ↦ in_place-before span_source spans_local (alike_begin alike) was
-            | inr follows ↦ spans_ahead follows front (KeyFront-alike Alike.same is.key_front) was
+            | inr follows ↦ spans_ahead follows front key_front was
           ] in
-          let q = with_key new_source other p in
-          let new : IsPair o c q.stretches other p.value (following ++ []) = record {
-            key_front = KeyFront-alike Alike.same place.front;
-            some = plain.bare.some;
-            separates = is.separates;
-            gives = is.gives;
-            white_before = is.white_before;
-            starts = is.starts;
-            white_after = is.white_after;
-            are_trailing = is.are_trailing;
-            own_lines = is.own_lines;
-            closed = is.closed;
-          } in
           in_place-put span_source spans_local front (pair p.stretches p.key p.value ∷ [])
           (renamed_pair ∷ []) rest h
           (subst (AreSpans o line_feed front) (sym (is_text_new following)) stays)
-          (AreInPlace.more (IsSpan.is_pair new) AreInPlace.none)
-          (last_agrees (same_last c))
+          (AreInPlace.more (IsSpan.is_pair (new_pair is place.front)) AreInPlace.none)
+          (new_agrees following (append-nil following) is)
 
 -- what the document shows of it
 renamed_keys : (key other source : Text) (ps : List PairPiece)
@@ -187,15 +260,30 @@ module _ {o : ParseOption} {policy : EscapePolicy} {other : Text} (plain : IsPla
   )
 
 -- after another header the rest is read as before
-header_agrees : {o : ParseOption} {s r z name : Text} (c : ℕ) (t : Text) → IsHeader o s r name → r ≡ z
-    → Agree o (last_or c s ∷ []) (last_or c (open_bracket ∷ (t ++ close_bracket ∷ [])) ∷ []) z
-header_agrees c t (IsHeader.plain {s = s} off str) same =
+header_agrees : {o : ParseOption} {s r z name blanks : Text} (c : ℕ) (t : Text) → StayBehind s r blanks
+    → IsHeader o s r name → r ≡ z
+    → Agree o (last_or c s ∷ []) (last_or c ((open_bracket ∷ (t ++ close_bracket ∷ [])) ++ blanks) ∷ []) z
+header_agrees {r = r} {blanks = blanks} c t stay (IsHeader.plain {s = s} off str) same =
     last_agrees (last_or-append open_bracket s (close_bracket ∷ [])
-    ∙ sym (last_or-append open_bracket t (close_bracket ∷ [])))
-header_agrees {o} c t (IsHeader.bracketed {s = s} {r = r} on str i) same =
-    subst (Agree o (last_or c (open_bracket ∷ s) ∷ [])
-    (last_or c (open_bracket ∷ (t ++ close_bracket ∷ [])) ∷ [])) same
-    (closed_agrees r (plain_closes r (str_closes str)))
+    ∙ sym (ap (λ w. last_or open_bracket ((t ++ close_bracket ∷ []) ++ w))
+    (plain_bare (open_bracket ∷ s) r blanks stay)
+    ∙ ap (last_or open_bracket) (append-nil (t ++ close_bracket ∷ []))
+    ∙ last_or-append open_bracket t (close_bracket ∷ [])))
+header_agrees {o} {z = z} {blanks = blanks} c t stay (IsHeader.bracketed on str i) same =
+    at stay (name_ends str) same
+  where
+    new : Text
+    new = open_bracket ∷ (t ++ close_bracket ∷ [])
+
+    at : {s r v : Text} → StayBehind (open_bracket ∷ s) r blanks → NameEnds o s r v → r ≡ z
+        → Agree o (last_or c (open_bracket ∷ s) ∷ []) (last_or c (new ++ blanks) ∷ []) z
+    at {s} {r} stay (NameEnds.closed row closes) same =
+        subst (Agree o (last_or c (open_bracket ∷ s) ∷ []) (last_or c (new ++ blanks) ∷ [])) same
+        (closed_agrees r (plain_closes r closes))
+    at stay (NameEnds.before {s} d row notes raw blank mark) same =
+        last_agrees (last_or_append c d (open_bracket ∷ s)
+        ∙ sym (last_or-append c new blanks ∙ ap (last_or (last_or c new)) (stay.behind mark)
+        ∙ blanks_last (open_bracket ∷ s) d (last_or c new) blank))
 
 -- headers begin alike
 headers_begin : (s t r : Text) → BeginsWith (λ c. c == open_bracket) s
@@ -206,14 +294,16 @@ headers_begin (c ∷ s) t r h =
     (eqb-true c open_bracket h)) BeginAlike.character
 
 module _ {o : ParseOption} (policy : EscapePolicy) (other : Text) (plain : IsPlainName o policy other) where
-  -- the header of a section
-  abbrev named : Span
-  named = opening (Some other) (header_of policy other)
+  -- the header of a section, before such blanks
+  abbrev named : Text → Span
+  named blanks = opening (Some other) (header_of policy other ++ blanks)
 
-  header_put : (old header : Text) (front rest : List Span)
+  header_put : (old header blanks : Text) (front rest : List Span)
+      → (AreSpans o (last_or (last_or line_feed (joined span_source front)) header) rest []
+      → StayBehind header (joined span_source rest ++ []) blanks)
       → AreSpans o line_feed (front ++ (opening (Some old) header ∷ rest)) []
-      → AreSpans o line_feed (front ++ (named ∷ rest)) []
-  header_put old header front rest h =
+      → AreSpans o line_feed (front ++ (named blanks ∷ rest)) []
+  header_put old header blanks front rest stay h =
       at (in_place-split span_source front (opening (Some old) header ∷ rest) h).1
     where
       c : ℕ
@@ -223,18 +313,48 @@ module _ {o : ParseOption} (policy : EscapePolicy) (other : Text) (plain : IsPla
       following = joined span_source rest
 
       at : AreSpans o c (opening (Some old) header ∷ rest) []
-          → AreSpans o line_feed (front ++ (named ∷ rest)) []
+          → AreSpans o line_feed (front ++ (named blanks ∷ rest)) []
       at (AreInPlace.more (IsSpan.header e) later) =
+          let new = header_of policy other ++ blanks in
           in_place-exchanged span_source spans_local front (opening (Some old) header ∷ [])
-          (named ∷ []) rest h
-          (AreInPlace.more (IsSpan.header (header_anew policy other plain (as_header e))) AreInPlace.none)
-          (headers_begin header (escaped policy other ++ close_bracket ∷ []) (following ++ [])
+          (named blanks ∷ []) rest h
+          (AreInPlace.more (IsSpan.header (header_anew policy other plain (stay later) (as_header e)))
+          AreInPlace.none)
+          (headers_begin header ((escaped policy other ++ close_bracket ∷ []) ++ blanks) (following ++ [])
           (header_bracket (as_header e)))
-          (subst (λ t. Agree o (last_or c t ∷ []) (last_or c (header_of policy other ++ []) ∷ []) following)
+          (subst (λ t. Agree o (last_or c t ∷ []) (last_or c (new ++ []) ∷ []) following)
           (sym (append-nil header))
-          (subst (λ t. Agree o (last_or c header ∷ []) (last_or c t ∷ []) following)
-          (sym (append-nil (header_of policy other)))
-          (header_agrees c (escaped policy other) (as_header e) (append-nil following))))
+          (subst (λ t. Agree o (last_or c header ∷ []) (last_or c t ∷ []) following) (sym (append-nil new))
+          (header_agrees c (escaped policy other) (stay later) (as_header e) (append-nil following))))
+
+  -- the blanks before a note stay
+  stay_behind : {c : ℕ} (s : SectionPiece) (rest : List SectionPiece)
+      → list_all (λ t. is_some t.name) rest ≡ true
+      → AreSpans o c (gap s.after ∷ (pairs_spans s.pairs ++ sections_spans rest)) []
+      → StayBehind s.header
+      (joined span_source (gap s.after ∷ (pairs_spans s.pairs ++ sections_spans rest)) ++ [])
+      (blanks_before_note s)
+  stay_behind {c} s rest has (AreInPlace.more is later) =
+      at s.after (unmarked_after s.pairs rest has later)
+    where
+      x : Text
+      x = joined span_source (pairs_spans s.pairs ++ sections_spans rest)
+
+      no_mark : (y : Text) → BeginsWithNo is_comment_mark y → begins is_comment_mark y ≡ false
+      no_mark [] none = refl
+      no_mark (c ∷ y) none = none
+
+      at : (a : Text) → BeginsWithNo is_comment_mark (x ++ [])
+          → StayBehind s.header ((a ++ x) ++ [])
+          (if begins is_comment_mark a then blanks_at_end s.header else [])
+      at [] none = record {
+        behind = λ mark. absurd (both_ways (begins is_comment_mark (x ++ [])) (no_mark (x ++ []) none) mark);
+        bare = λ other. refl;
+      }
+      at (d ∷ a) none = record {
+        behind = λ mark. cond-true (is_comment_mark d) _ _ mark;
+        bare = λ other. cond-false (is_comment_mark d) _ _ other;
+      }
 
   -- and the sections
   begin-named : (ss : List SectionPiece) (s t : SectionPiece) (rest : List SectionPiece) {old : Text}
@@ -244,7 +364,8 @@ module _ {o : ParseOption} (policy : EscapePolicy) (other : Text) (plain : IsPla
   begin-named (u ∷ ss) s t rest was is h = (
     h.0,
     list_all-append (λ v. is_some v.name) ss (t ∷ rest)
-        ∙ ap (λ n. list_all (λ v. is_some v.name) ss && (is_some n && list_all (λ v. is_some v.name) rest)) is
+        ∙ ap (λ n. list_all (λ v. is_some v.name) ss && (is_some n && list_all (λ v. is_some v.name) rest))
+        is
         ∙ ap (λ n. list_all (λ v. is_some v.name) ss && (is_some n && list_all (λ v. is_some v.name) rest))
         (sym was)
         ∙ sym (list_all-append (λ v. is_some v.name) ss (s ∷ rest)) ∙ h.1,
@@ -268,7 +389,10 @@ module _ {o : ParseOption} (policy : EscapePolicy) (other : Text) (plain : IsPla
             (begin-named x.before s (f s) x.rest named_so refl (subst BeginGeneral x.whole h.begin_general));
         spans = subst (λ xs. AreSpans o line_feed xs [])
             (sym (ap sections_spans (x.changed f) ∙ sections_spans-append x.before (f s ∷ x.rest)))
-            (header_put old s.header before after (subst (λ xs. AreSpans o line_feed xs []) was h.spans));
+            (header_put old s.header (blanks_before_note s) before after
+            (stay_behind s x.rest
+            (names_after x.before s x.rest (subst BeginGeneral x.whole h.begin_general)))
+            (subst (λ xs. AreSpans o line_feed xs []) was h.spans));
       }
 
   -- and what the document shows of them

@@ -1,49 +1,44 @@
 -- A pair's value set in a text in pieces.
-use Rattle.std.proofs.Common.{◌≡◌, ◌≢◌, ◌∙◌, ℕ, Bool, true, false, cond, List, [], ◌∷◌, ◌++◌, append_assoc}
-use Rattle.std.proofs.Common.{append-nil, get_or, map, set}
+use Rattle.std.proofs.Common.{◌≡◌, ◌∙◌, ◌≤◌, ℕ, Bool, true, false, cond, List, [], ◌∷◌, ◌++◌, append_assoc}
+use Rattle.std.proofs.Common.{append-nil, arith, get_or, length, map, set}
 use Rattle.std.proofs.Common.{None, Option, Some, ap, refl, sym, subst}
 use Rattle.std.proofs.lemmas.Bool.{both_ways, false≢true}
 use Rattle.std.proofs.lemmas.List.{set-get_or}
 use Rattle.std.proofs.lemmas.List.Elements.{All-cons, All-nil}
 use Rattle.std.specs.List.{All}
-use Rattle.std.specs.Map.{set_value}
 use Rattle.std.specs.Option.{option_map}
-use Rattle.std.specs.Prelude.{option_and_then}
+use Rattle.std.specs.Prelude.{is_some, option_and_then}
 use Rattle.ini_text.specs.Grammar.CharacterKinds.{is_blank, is_comment_mark, line_feed}
-use Rattle.ini_text.specs.Grammar.Places.{Stretches, TrailingLines, pair_source}
+use Rattle.ini_text.specs.Grammar.Places.{Stretches, TrailingLines, pair_source, separator_text}
 use Rattle.ini_text.specs.Grammar.Positions.{last_or, is_column_one, starts_line}
 use Rattle.ini_text.specs.Grammar.Strings.{Closes, plain_ends}
 use Rattle.ini_text.specs.Grammar.Values.{LineEnd}
 use Rattle.ini_text.specs.Laws.PieceLaws.{Agree, BeginAlike}
 use Rattle.ini_text.specs.declared.option.ParseOption.{ParseOption}
-use Rattle.ini_text.specs.declared.write.policy.EscapePolicy.{EscapePolicy}
 use Rattle.ini_text.proofs.GrammarLemmas.KindLemmas.{line_end_no_blank}
 use Rattle.ini_text.proofs.LawLemmas.PieceLemmas.{last_or-append}
+use Rattle.ini_text.proofs.ReaderLemmas.KeyReaderLemmas.{KeyFront-some}
 use Rattle.ini.specs.Documents.{Document, value_in}
-use Rattle.ini.specs.Edits.{edit_section, replace_in}
+use Rattle.ini.specs.Edits.{edit_section}
 use Rattle.ini.specs.Properties.{Pairs, first_value}
 use Rattle.ini.specs.Texts.{Text, is_name, is_text}
 use Rattle.ini_edit.specs.Inside.InPlace.{AreInPlace}
-use Rattle.ini_edit.specs.Inside.Spans.{AreSections, AreSpans, BeginGeneral, IsPair, IsSpan, Span}
-use Rattle.ini_edit.specs.Inside.Spans.{opening, pair, gap, pairs_spans, sections_spans}
+use Rattle.ini_edit.specs.Inside.Spans.{AreSections, AreSpans, BeginGeneral, IsLonePair, IsPair, IsSpan}
+use Rattle.ini_edit.specs.Inside.Spans.{Span}
+use Rattle.ini_edit.specs.Inside.Spans.{IsValuePair, opening, pair, gap, pairs_spans, sections_spans}
 use Rattle.ini_edit.specs.Inside.Spans.{span_source}
 use Rattle.ini_edit.specs.Inside.Quotes.{IsOwnSource}
-use Rattle.ini_edit.specs.Inside.SourceSteps.{HaveOwnSources, IsFirstAt, SetsIn, SetsKey, SetsPair}
-use Rattle.ini_edit.specs.Quotes.{IsPut, KeepsQuote, written_in}
-use Rattle.ini_edit.specs.SourceEdits.{SetsValueIn, first_changed, first_fitting, key_changed, pair_changed}
+use Rattle.ini_edit.specs.Inside.SourceSteps.{HaveOwnSources, IsFirstAt}
+use Rattle.ini_edit.specs.SourceEdits.{first_changed, first_fitting, key_changed, pair_changed}
 use Rattle.ini_edit.specs.SourceEdits.{pair_in, pair_of_key, with_pairs, with_value}
-use Rattle.ini_edit.specs.Sources.{PairPiece, Pieces, SectionPiece, given_pair, given_section, joined}
-use Rattle.ini_edit.specs.Writable.{IsWritableValue}
-use Rattle.ini_edit.proofs.ClosedLemmas.{source_closed}
-use Rattle.ini_edit.proofs.FirstLemmas.{changed_first, entry_changed, first_stands}
-use Rattle.ini_edit.proofs.FirstLemmas.{lookup_first, stands_there}
+use Rattle.ini_edit.specs.Sources.{PairPiece, SectionPiece, given_pair, given_section, has_separator, joined}
+use Rattle.ini_edit.proofs.FirstLemmas.{entry_changed, first_stands}
+use Rattle.ini_edit.proofs.FirstLemmas.{lookup_first}
 use Rattle.ini_edit.proofs.InPlaceLemmas.{in_place-exchanged, in_place-split}
-use Rattle.ini_edit.proofs.OwnBeforeLemmas.{own_padded}
 use Rattle.ini_edit.proofs.QuietLemmas.{line_end_no_mark}
-use Rattle.ini_edit.proofs.QuoteLemmas.{lines_in, quote_for, source_in, starts_in}
 use Rattle.ini_edit.proofs.SourceReadLemmas.{begin-same, pairs_spans-append, sections_spans-append}
 use Rattle.ini_edit.proofs.SpanLemmas.{own_source, spans_local}
-use Rattle.ini_edit.proofs.ValueLemmas.{closes_line_end, tail_closes, value_written}
+use Rattle.ini_edit.proofs.ValueLemmas.{closes_line_end}
 
 -- before nothing all fronts agree
 pub before_nothing : {o : ParseOption} {b c : Text} → Agree o b c []
@@ -89,56 +84,43 @@ tail_agrees c u v same (TrailingLines.lines {e} {t} on end more all) =
         at LineEnd.cr_lf = refl
         at (LineEnd.cr n) = refl
 
--- keys and separators that are the same begin alike
-keys_begin : (k : Text) (m : ℕ) (v w r : Text) → BeginAlike (((k ++ m ∷ v) ++ []) ++ r)
-    (((k ++ m ∷ w) ++ []) ++ r)
-keys_begin [] m v w r = BeginAlike.character
-keys_begin (c ∷ k) m v w r = BeginAlike.character
+-- keys that are the same begin alike
+pub keys_begin : (k x y r s : Text) → 1 ≤ length k → BeginAlike (((k ++ x) ++ []) ++ r) (((k ++ y) ++ []) ++ s)
+keys_begin [] x y r s some = absurd (omega (arith, some))
+keys_begin (c ∷ k) x y r s some = BeginAlike.character
 
 -- a pair's source is what stands before its tail, and that
 abbrev pub before_tail : Stretches → Text
-before_tail p = p.key ++ p.separator ∷ (p.space_before ++ (p.raw_value ++ p.space_after))
+before_tail p =
+    p.key ++ (separator_text p.separator ++ (p.space_before ++ (p.raw_value ++ (p.space_after ++ p.note))))
+
+tail_seam : (k s b v a n t : Text)
+    → k ++ (s ++ (b ++ (v ++ (a ++ (n ++ t))))) ≡ (k ++ (s ++ (b ++ (v ++ (a ++ n))))) ++ t
+tail_seam k s b v a n t = simp append_assoc
 
 pub with_tail : (p : Stretches) → pair_source p ++ [] ≡ before_tail p ++ p.trailing_lines
 with_tail p =
     append-nil (pair_source p)
-    ∙ ap (λ t. p.key ++ p.separator ∷ (p.space_before ++ t)) (sym
-    (append_assoc p.raw_value p.space_after p.trailing_lines))
-    ∙ ap (λ t. p.key ++ p.separator ∷ t) (sym (append_assoc p.space_before
-    (p.raw_value ++ p.space_after) p.trailing_lines))
-    ∙ sym (append_assoc p.key (p.separator ∷ (p.space_before ++
-    (p.raw_value ++ p.space_after))) p.trailing_lines)
+    ∙ tail_seam p.key (separator_text p.separator) p.space_before p.raw_value p.space_after p.note
+    p.trailing_lines
+
+-- a pair with a separator has a value, and one without is a key alone
+module _ {o : ParseOption} {c : ℕ} {p : Stretches} {key value r : Text} where
+  pub value_there : is_some p.separator ≡ true → IsPair o c p key value r → IsValuePair o c p key value r
+  value_there has (IsPair.has_value h) = h
+  value_there has (IsPair.is_lone h) = absurd (false≢true (ap is_some (sym h.lone.no_separator) ∙ has))
+
+  pub lone_there : is_some p.separator ≡ false → IsPair o c p key value r → IsLonePair o c p key value r
+  lone_there lacks (IsPair.has_value h) = absurd (false≢true (sym lacks ∙ ap is_some h.separator_is))
+  lone_there lacks (IsPair.is_lone h) = h
 
 -- in the pair's place the value may stand, of this source
 abbrev pub MayStand : ParseOption → (source value : Text) → PairPiece → Type 0
-MayStand o source value p = (c : ℕ) (r : Text) → IsPair o c p.stretches p.key p.value r
-    → IsPair o c (with_value source value p).stretches p.key value r
+MayStand o source value p = (c : ℕ) (r : Text) → IsValuePair o c p.stretches p.key p.value r
+    → IsValuePair o c (with_value source value p).stretches p.key value r
 
-module _ {o : ParseOption} {policy : EscapePolicy} {value source : Text}
-    (writable : IsWritableValue o policy value)
-    (p : PairPiece) (put : IsPut o policy p.stretches.raw_value p.value value source) where
-  pair_set : MayStand o source value p
-  pair_set c r h = at put
-    where
-      at : {source : Text} → IsPut o policy p.stretches.raw_value p.value value source
-          → IsPair o c (with_value source value p).stretches p.key value r
-      at (IsPut.stays same) = subst (λ v. IsPair o c p.stretches p.key v r) (sym same) h
-      at (IsPut.written {quote} apart keeps) = record {
-        key_front = h.key_front;
-        some = h.some;
-        separates = h.separates;
-        gives = value_written p.stretches.space_before p.stretches.space_after h.white_before h.white_after
-            (source_in writable (quote_for keeps)) h.are_trailing;
-        white_before = h.white_before;
-        starts = starts_in writable (quote_for keeps);
-        white_after = h.white_after;
-        are_trailing = h.are_trailing;
-        own_lines = own_padded p.stretches.space_after (p.stretches.trailing_lines ++ r) h.white_after
-            (tail_closes h.are_trailing) (lines_in writable (quote_for keeps));
-        closed = λ e. absurd (source_closed (source_in writable (quote_for keeps)) e);
-      }
-
-module _ {o : ParseOption} (source value : Text) (p : PairPiece) (may : MayStand o source value p) where
+module _ {o : ParseOption} (source value : Text) (p : PairPiece) (may : MayStand o source value p)
+    (has : has_separator p ≡ true) where
   abbrev the_new : Span
   the_new = pair (with_value source value p).stretches p.key value
 
@@ -152,11 +134,13 @@ module _ {o : ParseOption} (source value : Text) (p : PairPiece) (may : MayStand
 
       at : AreSpans o c (pair p.stretches p.key p.value ∷ rest) []
           → AreSpans o line_feed (front ++ (the_new ∷ rest)) []
-      at (AreInPlace.more (IsSpan.is_pair is) later) =
+      at (AreInPlace.more (IsSpan.is_pair pair_is) later) =
+          let is = value_there has pair_is in
           in_place-exchanged span_source spans_local front (pair p.stretches p.key p.value ∷ [])
           (the_new ∷ []) rest h
-          (AreInPlace.more (IsSpan.is_pair (may _ _ is)) AreInPlace.none)
-          (keys_begin p.stretches.key p.stretches.separator _ _ (joined span_source rest ++ []))
+          (AreInPlace.more (IsSpan.is_pair (IsPair.has_value (may _ _ is))) AreInPlace.none)
+          (keys_begin p.stretches.key _ _ (joined span_source rest ++ []) (joined span_source rest ++ [])
+          (KeyFront-some is.key_front is.some))
           (subst (λ t. Agree o (last_or c (pair_source p.stretches ++ []) ∷ []) (last_or c t ∷ [])
           (joined span_source rest))
           (sym (with_tail (with_value source value p).stretches))
@@ -228,39 +212,16 @@ module _ {o : ParseOption} (name : Option Text) (key : Text) (f : PairPiece → 
                 spans;
           }
 
--- and what they give
-changed_values : (key source value : Text) (ps : List PairPiece)
-    → map given_pair (first_changed (λ p. is_text key p.key) (with_value source value) ps)
-    ≡ set_value (is_text key) (map given_pair ps) value
-changed_values key source value ps =
-    changed_first (λ p. is_text key p.key) (is_text key) given_pair (λ p. refl) (with_value source value)
-    (λ _. value)
-    (λ p. refl) ps
-    ∙ as_set (map given_pair ps)
-  where
-    as_set : (es : Pairs) → entry_changed (is_text key) (λ _. value) es ≡ set_value (is_text key) es value
-    as_set [] = refl
-    as_set (e ∷ es) = ap (λ l. cond (is_text key e.0) ((e.0, value) ∷ es) (e ∷ l)) (as_set es)
-
+-- an edit of the first section of the name
 pub as_edit : (name : Option Text) (f : Pairs → Pairs) (d : Document)
     → entry_changed (is_name name) f d ≡ edit_section name f [] d
 as_edit name f [] = refl
 as_edit name f (s ∷ d) = ap (λ l. cond (is_name name s.0) ((s.0, f s.1) ∷ d) (s ∷ l)) (as_edit name f d)
 
-pub value_replaced : (name : Option Text) (key source value : Text) (ss : List SectionPiece)
-    → map given_section (pair_changed name key (with_value source value) ss)
-    ≡ replace_in name key value (map given_section ss)
-value_replaced name key source value ss =
-    let f : Pairs → Pairs = λ ps. set_value (is_text key) ps value in
-    changed_first (λ s. is_name name s.name) (is_name name) given_section (λ s. refl)
-    (key_changed key (with_value source value)) f
-    (λ s. ap (λ ps. (s.name, ps)) (changed_values key source value s.pairs)) ss
-    ∙ as_edit name f (map given_section ss)
-
 -- the value of the first pair
-pub value_there : (name : Option Text) (key : Text) (ss : List SectionPiece)
+pub first_value_there : (name : Option Text) (key : Text) (ss : List SectionPiece)
     → value_in name key (map given_section ss) ≡ option_map (λ p. p.value) (pair_in name key ss)
-value_there name key ss =
+first_value_there name key ss =
     ap (option_and_then (first_value key))
     (lookup_first (λ s. is_name name s.name) (is_name name) given_section (λ s. refl) ss)
     ∙ at (first_fitting (λ s. is_name name s.name) ss)
@@ -270,28 +231,6 @@ value_there name key ss =
         ≡ option_map (λ p. p.value) (option_and_then (pair_of_key key) s)
     at None = refl
     at (Some s) = lookup_first (λ p. is_text key p.key) (is_text key) given_pair (λ p. refl) s.pairs
-
--- one pair: its value is there, or is written anew
-module _ {o : ParseOption} {policy : EscapePolicy} {value : Text} where
-  pub pair_stays : {p : PairPiece} → value ≡ p.value → SetsPair o policy p p value
-  pair_stays {p} same = record {
-    source = p.stretches.raw_value;
-    is_put = IsPut.stays same;
-    is = ap (λ v. with_value p.stretches.raw_value v p) (sym same);
-  }
-
-  pub pair_written : {p q : PairPiece} {quote source new : Text} → q ≡ p
-      → KeepsQuote o q.stretches.raw_value value quote → value ≢ q.value
-      → source ≡ written_in policy quote value
-      → new ≡ value → SetsPair o policy p (with_value source new q) value
-  pair_written {q = q} {quote} {source} {new} same keeps apart written is =
-      subst (λ p. SetsPair o policy p (with_value source new q) value) same
-      (record {
-        source = written_in policy quote value;
-        is_put = IsPut.written apart keeps;
-        is = ap (λ s. with_value s new q) written ∙ ap (λ v. with_value
-            (written_in policy quote value) v q) is;
-      })
 
 -- each pair's value is the source of a value
 module _ {o : ParseOption} where
@@ -313,7 +252,7 @@ module _ {o : ParseOption} where
 -- no pair of the key
 pub no_value : (name : Option Text) (key : Text) (ss : List SectionPiece) → pair_in name key ss ≡ None
     → value_in name key (map given_section ss) ≡ None
-no_value name key ss none = value_there name key ss ∙ ap (option_map (λ p. p.value)) none
+no_value name key ss none = first_value_there name key ss ∙ ap (option_map (λ p. p.value)) none
 
 -- what an edit of the first section of the name makes of the sections
 module _ (name : Option Text) (key : Text) (ss : List SectionPiece) {i : ℕ}
@@ -327,54 +266,3 @@ module _ (name : Option Text) (key : Text) (ss : List SectionPiece) {i : ℕ}
 
   pub found_there : {p : Option PairPiece} → pair_of_key key at.found ≡ p → pair_in name key ss ≡ p
   found_there is = ap (option_and_then (pair_of_key key)) at.fitting ∙ is
-
-module _ {o : ParseOption} {policy : EscapePolicy} {value : Text} (writable : IsWritableValue o policy value)
-    (name : Option Text) (key : Text) (ss : List SectionPiece) {i : ℕ}
-    (at : IsFirstAt (λ s. is_name name s.name) ss i) (new : SectionPiece) where
-  pub sections_after : (found : Bool) → SetsIn o policy at.found new key value found → AreSections o ss
-      → AreSections o (set ss i new)
-  sections_after true h are =
-      let f = with_value h.source value in
-      subst (AreSections o) (sym (changed_sections name key ss at new (key_changed key f) h.is))
-      (sections_put name key f h.pair refl
-      (spans_set h.source value h.pair (pair_set writable h.pair h.is_put)) ss
-      (found_there name key ss at new h.was) are)
-  sections_after false h are = subst (AreSections o) (sym (same_sections name key ss at new h.0)) are
-
-  abbrev pieces : List SectionPiece → Pieces
-  pieces l = record { option = o; sections = l }
-
-  pub pieces_after : (found : Bool) → SetsIn o policy at.found new key value found
-      → SetsValueIn o policy (pieces ss) (pieces (set ss i new)) name key value found
-  pieces_after true h =
-      let f = key_changed key (with_value h.source value) in
-      let is = changed_sections name key ss at new f h.is in
-      record {
-        pair = h.pair;
-        was = found_there name key ss at new h.was;
-        source = h.source;
-        is_put = h.is_put;
-        option = refl;
-        sections = is;
-        document = ap (map given_section) is ∙ value_replaced name key h.source value ss;
-      }
-  pieces_after false h = (
-    ap pieces (same_sections name key ss at new h.0),
-    no_value name key ss (found_there name key ss at new h.1),
-  )
-
--- the first pair of a key set in its section
-pub key_set : {o : ParseOption} {policy : EscapePolicy} {value : Text} (key : Text) {s t : SectionPiece}
-    {i : ℕ} {y z : PairPiece} → t ≡ s → IsFirstAt (λ p. is_text key p.key) t.pairs i → y ≡ get_or t.pairs i y
-    → SetsPair o policy y z value → SetsKey o policy s (with_pairs t (set t.pairs i z)) key value
-key_set {o} {policy} {value} key {s} {t} {i} {y} {z} same at is h =
-    let f = with_value h.source value in
-    let there : at.found ≡ y = stands_there (λ p. is_text key p.key) at is in
-    subst (λ s. SetsKey o policy s (with_pairs t (set t.pairs i z)) key value) same
-    (record {
-      pair = at.found;
-      was = at.fitting;
-      source = h.source;
-      is_put = subst (λ p. IsPut o policy p.stretches.raw_value p.value value h.source) (sym there) h.is_put;
-      is = ap (with_pairs t) (ap (set t.pairs i) (h.is ∙ ap f (sym there)) ∙ at.changed f);
-    })

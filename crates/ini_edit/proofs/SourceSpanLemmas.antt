@@ -18,8 +18,8 @@ use Rattle.ini_edit.specs.SourceEditsDelete.{rest_put, with_rest}
 use Rattle.ini_edit.specs.SourceLines.{is_empty}
 use Rattle.ini_edit.specs.SourcePlaces.{Place, exchanged, gap_of, gap_put, last_before_gap}
 use Rattle.ini_edit.specs.SourcePlaces.{last_before_section, last_changed, text_up_to}
-use Rattle.ini_edit.specs.Sources.{PairPiece, SectionPiece, joined, pair_text, pairs_text, section_text}
-use Rattle.ini_edit.specs.Sources.{sections_text}
+use Rattle.ini_edit.specs.Sources.{PairPiece, SectionPiece, has_separator, is_multiline, joined, pair_text}
+use Rattle.ini_edit.specs.Sources.{pairs_text, section_text, sections_text}
 use Rattle.ini_edit.proofs.InPlaceLemmas.{joined-append}
 use Rattle.ini_edit.proofs.SourceReadLemmas.{begin-same, pairs_spans-append, sections_spans-append}
 use Rattle.ini_edit.proofs.SpanLemmas.{pairs_joined, sections_joined}
@@ -148,8 +148,8 @@ rest_put_gap o off lines g s (p ∷ ps) after = ap (λ l. with_pairs s (l ++ aft
     at : (p : PairPiece) (ps : List PairPiece)
         → last_changed (with_rest o lines g) (p ∷ ps)
         ≡ last_changed (λ q. record q { after = gap_of p.after ps ++ (lines ++ g) }) (p ∷ ps)
-    at p [] = ap (λ q. q ∷ []) (cond-false (o.enabled_indented_mutiline_value && is_empty p.after) _ _
-        (ap (λ b. b && is_empty p.after) off))
+    at p [] = ap (λ q. q ∷ []) (cond-false (is_multiline o p && is_empty p.after) _ _
+        (ap (λ b. (b && has_separator p) && is_empty p.after) off))
     at p (q ∷ ps) = ap (λ l. p ∷ l) (at q ps)
 
 -- the last character before a section is that of the spans before it, and so before a pair and before a gap
@@ -247,6 +247,16 @@ module _ (o : ParseOption) {ss : List SectionPiece} {s : Place SectionPiece} {i 
       section_put_in (gap_put g s.here before later) (gap_put_name g s.here before later)
       (λ h. subst (λ xs. AreSpans o line_feed xs []) (sym now)
       (put (subst (λ xs. AreSpans o line_feed xs []) was h))) are
+
+  -- the spans around pairs
+  pub pairs_there : (before ps after : List PairPiece) → s.here.pairs ≡ before ++ (ps ++ after)
+      → AreSections o ss
+      → AreSpans o line_feed (spans_before_pairs s before ++ (pairs_spans ps ++ spans_after_pairs s after)) []
+  pairs_there before ps after whole are =
+      subst (λ xs. AreSpans o line_feed xs [])
+      (ap sections_spans at.whole ∙ sections_spans-append s.before (s.here ∷ s.after)
+      ∙ ap (λ ps. spans_around s (section_spans (with_pairs s.here ps))) whole
+      ∙ at_pairs before ps after) are.spans
 
   -- other pairs in place of some, where their spans may be exchanged
   pub pairs_put_in : (before olds news after : List PairPiece) → s.here.pairs ≡ before ++ (olds ++ after)

@@ -1,11 +1,11 @@
 -- What stands before a place of a text in pieces stands there before other texts too.
 use Rattle.std.proofs.Common.{◌≡◌, ◌∙◌, ◌≤◌, ℕ, List, [], ◌∷◌, ◌++◌, None, Option}
-use Rattle.std.proofs.Common.{Some, ap, append-nil, arith, length, refl, subst, sym}
-use Rattle.ini_text.specs.Grammar.CharacterKinds.{line_feed}
+use Rattle.std.proofs.Common.{Some, ap, append-nil, arith, length, not, refl, subst, sym}
+use Rattle.ini_text.specs.Grammar.CharacterKinds.{BeginsWith, is_line_end, line_feed}
 use Rattle.ini_text.specs.Grammar.Elements.{Element}
 use Rattle.ini_text.specs.Grammar.Keys.{KeyFront}
 use Rattle.ini_text.specs.Grammar.Pieces.{ArePieces, Piece, pieces_items, pieces_text}
-use Rattle.ini_text.specs.Grammar.Places.{pair_source}
+use Rattle.ini_text.specs.Grammar.Places.{Stretches, pair_source, separator_text, value_source}
 use Rattle.ini_text.specs.Grammar.Positions.{last_or}
 use Rattle.ini_text.specs.Laws.PieceLaws.{BeginAlike}
 use Rattle.ini_text.specs.declared.option.ParseOption.{ParseOption}
@@ -14,14 +14,16 @@ use Rattle.ini_text.proofs.LawLemmas.LocalLemmas.{Element-before}
 use Rattle.ini_text.proofs.LawLemmas.PieceLemmas.{last_or-append}
 use Rattle.ini.specs.Texts.{Text}
 use Rattle.ini_edit.specs.Inside.InPlace.{AreInPlace}
-use Rattle.ini_edit.specs.Inside.Spans.{AreSpans, IsGap, IsSpan, Span, opening, span_source}
+use Rattle.ini_edit.specs.Inside.Spans.{AreSpans, IsGap, IsLonePair, IsPair, IsSpan, Span, opening}
+use Rattle.ini_edit.specs.Inside.Spans.{span_source}
 use Rattle.ini_edit.specs.Places.{Follows}
 use Rattle.ini_edit.specs.Sources.{joined}
-use Rattle.ini_edit.proofs.AheadLemmas.{FollowsFront, header_before, key_follows, nothing_before}
+use Rattle.ini_edit.proofs.AheadLemmas.{FollowsFront, NoNoteAfter, header_before, key_follows, lone_no_line}
+use Rattle.ini_edit.proofs.AheadLemmas.{nothing_before}
 use Rattle.ini_edit.proofs.AheadLemmas.{tail_before, value_before}
 use Rattle.ini_edit.proofs.AheadLemmas as ahead
 use Rattle.ini_edit.proofs.InPlaceLemmas.{in_place-before, in_place-join, in_place-split, joined-append}
-use Rattle.ini_edit.proofs.OwnBeforeLemmas.{own_ahead}
+use Rattle.ini_edit.proofs.OwnBeforeLemmas.{note_stays, own_ahead}
 use Rattle.ini_edit.proofs.QuietLemmas.{as_header}
 use Rattle.ini_edit.proofs.SourceReadLemmas.{empty_parts}
 use Rattle.ini_edit.proofs.SpanLemmas.{span_before, spans_local}
@@ -29,11 +31,22 @@ use Rattle.ini_edit.proofs.SpanLemmas.{span_before, spans_local}
 -- after these characters
 follows_at : {y : Text} (c : ℕ) (s : Text) → FollowsFront (last_or c s ∷ []) y
     → FollowsFront ((c ∷ []) ++ s) y
-follows_at c s f = record { some = f.some; bracket = f.bracket }
+follows_at c s f = record { some = f.some; bracket = f.bracket; note = f.note }
 
 follows_last : {y : Text} (c : ℕ) (s t : Text) → FollowsFront (last_or c (s ++ t) ∷ []) y
     → FollowsFront (last_or (last_or c s) t ∷ []) y
 follows_last {y} c s t f = subst (λ z. FollowsFront (z ∷ []) y) (last_or-append c s t) f
+
+-- a key alone stands before what ends its line, or a note
+pub lone_apart : {X : Type 0} {o : ParseOption} {c : ℕ} {p : Stretches} {key value y : Text}
+    → BeginsWith (λ c. not (is_line_end c)) y → NoNoteAfter (last_or c (pair_source p) ∷ []) y
+    → IsLonePair o c p key value y → X
+lone_apart {c = c} {p = p} {y = y} some apart h =
+    let key_alone : pair_source p ≡ p.key =
+    ap (λ m. p.key ++ (separator_text m ++ value_source p)) h.lone.no_separator
+    ∙ ap (λ z. p.key ++ z) h.lone.nothing ∙ append-nil p.key in
+    lone_no_line (c ∷ []) y some (subst (λ k. NoNoteAfter (last_or c k ∷ []) y) key_alone apart) h.key_front
+    h.lone.next
 
 -- what ends no line and is no bracket stands before any other text that may follow a value
 module _ {o : ParseOption} {x : Text} (follows : Follows o x) {y : Text} where
@@ -54,9 +67,12 @@ module _ {o : ParseOption} {x : Text} (follows : Follows o x) {y : Text} where
   span_ahead f IsSpan.general = IsSpan.general
   span_ahead {c} f (IsSpan.header {s = s} e) =
       IsSpan.header (ahead.Element-before follows (follows_at c s f) e)
-  span_ahead {c} f (IsSpan.is_pair {p = p} h) =
+  span_ahead {c} f (IsSpan.is_pair (IsPair.is_lone h)) = lone_apart f.some f.note h
+  span_ahead {c} f (IsSpan.is_pair {p = p} (IsPair.has_value h)) =
       let front = follows_at c (pair_source p) f in
-      IsSpan.is_pair (record {
+      IsSpan.is_pair (IsPair.has_value (record {
+        separator = h.separator;
+        separator_is = h.separator_is;
         key_front = h.key_front;
         some = h.some;
         separates = h.separates;
@@ -65,9 +81,11 @@ module _ {o : ParseOption} {x : Text} (follows : Follows o x) {y : Text} where
         starts = h.starts;
         white_after = h.white_after;
         are_trailing = tail_before follows front h.are_trailing;
-        own_lines = own_ahead x front h.are_trailing h.own_lines;
+        own_lines = own_ahead p.note x front h.are_trailing h.own_lines;
+        note = note_stays x front h.are_trailing h.note;
         closed = h.closed;
-      })
+        unnoted = h.unnoted;
+      }))
   span_ahead {c} f (IsSpan.is_gap h) = IsSpan.is_gap (record {
     pieces = h.pieces;
     whole = h.whole;
@@ -125,10 +143,11 @@ module _ {o : ParseOption} (x : Text) where
     are = pieces_free h.pieces h.nothing (subst (λ t. FollowsFront (last_or c t ∷ []) y) h.whole f) h.are;
   }
 
-  pub opening_ahead : {c : ℕ} {b y s : Text} {name : Option Text} → FollowsFront b y
+  pub opening_ahead : {c : ℕ} {y s : Text} {name : Option Text} → FollowsFront (last_or c s ∷ []) y
       → IsSpan o c (opening name s) y → IsSpan o c (opening name s) x
   opening_ahead f IsSpan.general = IsSpan.general
-  opening_ahead f (IsSpan.header e) = IsSpan.header (header_before x f (as_header e))
+  opening_ahead {c} {s = s} f (IsSpan.header e) =
+      IsSpan.header (header_before (c ∷ []) x f.some (follows_at c s f).note (as_header e))
 
   -- the same of all up to a section's opening
   pub opening_free : {y : Text} (ys : List Span) (name : Option Text) (s : Text) → (name ≡ None → ys ≡ [])
@@ -157,4 +176,4 @@ module _ {o : ParseOption} (x : Text) where
       at before (AreInPlace.more (IsSpan.header e) AreInPlace.none) f =
           in_place-join span_source ys (opening (Some name) s ∷ [])
           (in_place-before span_source spans_local (alike s (element-some e)) before)
-          (AreInPlace.more (IsSpan.header (header_before x f (as_header e))) AreInPlace.none)
+          (AreInPlace.more (opening_ahead f (IsSpan.header e)) AreInPlace.none)

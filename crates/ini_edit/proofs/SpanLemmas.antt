@@ -1,6 +1,6 @@
 -- The spans of a text in pieces: where they stand depends on one character on each side; and the elements,
 -- the items and the document that they make.
-use Rattle.std.proofs.Common.{◌≡◌, ◌∙◌, ℕ, true, List, [], ◌∷◌, ◌++◌, refl, sym, ap, subst, map}
+use Rattle.std.proofs.Common.{◌≡◌, ◌∙◌, ℕ, true, List, [], ◌∷◌, ◌++◌, refl, sym, ap, subst, subst₂, map}
 use Rattle.std.proofs.Common.{None, Option, Some, append_assoc, append-nil}
 use Rattle.std.proofs.lemmas.Bool.{and_parts, false≢true}
 use Rattle.std.specs.List.{list_all}
@@ -8,8 +8,12 @@ use Rattle.std.specs.Prelude.{is_some}
 use Rattle.ini_text.specs.Grammar.CharacterKinds.{line_feed}
 use Rattle.ini_text.specs.Grammar.Elements.{Given, Header, Pair, Element}
 use Rattle.ini_text.specs.Grammar.Pieces.{ArePieces, Piece, pieces_items, pieces_text}
-use Rattle.ini_text.specs.Grammar.Places.{Stretches, TrailingLines, pair_source, value_source}
+use Rattle.ini_text.specs.Grammar.Keys.{KeyFront}
+use Rattle.ini_text.specs.Grammar.Lines.{LineTail, LineText, Quoted}
+use Rattle.ini_text.specs.Grammar.Places.{IsLone, OwnLines, Stretches, TrailingLines, after_key_source}
+use Rattle.ini_text.specs.Grammar.Places.{pair_source, separator_text, value_source}
 use Rattle.ini_text.specs.Grammar.Positions.{last_or}
+use Rattle.ini_text.specs.Grammar.Strings.{Row, Str}
 use Rattle.ini_text.specs.Grammar.Texts.{Reads}
 use Rattle.ini_text.specs.Grammar.Values.{Value}
 use Rattle.ini_text.specs.Laws.PieceLaws.{Agree, BeginAlike}
@@ -17,7 +21,7 @@ use Rattle.ini_text.specs.declared.option.ParseOption.{ParseOption}
 use Rattle.ini_text.proofs.LawLemmas.LocalLemmas.{Agree-front, BeginAlike-after, Element-before}
 use Rattle.ini_text.proofs.LawLemmas.LocalLemmas.{Element-like, KeyFront-like}
 use Rattle.ini_text.proofs.LawLemmas.OneAheadLemmas.{Alike, Alike-after, KeyFront-alike, LineEnd-alike}
-use Rattle.ini_text.proofs.LawLemmas.OneAheadLemmas.{MoreLines-alike, Value-alike}
+use Rattle.ini_text.proofs.LawLemmas.OneAheadLemmas.{LineTail-alike, MoreLines-alike, Value-alike}
 use Rattle.ini_text.proofs.LawLemmas.PieceLemmas.{pieces_before, pieces_items-append}
 use Rattle.ini_text.proofs.LawLemmas.PieceLemmas.{pieces_join}
 use Rattle.ini_text.proofs.LawLemmas.PieceLemmas.{pieces_like, pieces_read, pieces_text-append}
@@ -35,6 +39,11 @@ use Rattle.ini_edit.specs.Sources.{PairPiece, SectionPiece, given_pair, given_se
 use Rattle.ini_edit.specs.Sources.{pairs_text, sections_text}
 use Rattle.ini_edit.proofs.InPlaceLemmas.{joined-append}
 use Rattle.ini_edit.proofs.OwnBeforeLemmas.{own_before}
+use Rattle.ini_edit.proofs.PairViewLemmas.{lone_parts}
+
+tail_before : {n r x : Text} → BeginAlike r x → LineTail n r → LineTail n x
+tail_before BeginAlike.empty g = g
+tail_before BeginAlike.character g = LineTail-alike Alike.same g
 
 module _ {o : ParseOption} where
   Value-before : {s r v x : Text} → BeginAlike r x → Value o s r v → Value o s x v
@@ -48,21 +57,59 @@ module _ {o : ParseOption} where
       TrailingLines.lines on (LineEnd-alike (Alike-after t Alike.same) end)
       (MoreLines-alike Alike.same more) all
 
+  -- a key alone has no more source
+  pub lone_source : {p : Stretches} {r value : Text} → IsLone o p r value → pair_source p ≡ p.key
+  lone_source {p} h =
+      ap (λ m. p.key ++ (separator_text m ++ value_source p)) h.no_separator
+      ∙ ap (λ t. p.key ++ t) h.nothing ∙ append-nil p.key
+
+  lone_before : {p : Stretches} {r x value : Text} → BeginAlike r x → IsLone o p r value
+      → IsLone o p x value
+  lone_before BeginAlike.empty h = h
+  lone_before BeginAlike.character h = record {
+    may_be = h.may_be;
+    no_separator = h.no_separator;
+    nothing = h.nothing;
+    empty = h.empty;
+    next = h.next;
+  }
+
+  key_before : {b k r x key : Text} → BeginAlike r x → KeyFront o b k r key → KeyFront o b k x key
+  key_before BeginAlike.empty front = front
+  key_before BeginAlike.character front = KeyFront-alike Alike.same front
+
   pair_element : {c : ℕ} {p : Stretches} {key value r : Text} → IsPair o c p key value r
       → Element o (c ∷ []) (pair_source p) r (Pair key value ∷ [])
-  pair_element h = Element.pair (KeyFront-alike Alike.same h.key_front) h.some h.separates h.gives
+  pair_element {c} {p} {key} {value} {r} (IsPair.has_value h) =
+      subst (λ m. Element o (c ∷ []) (p.key ++ (separator_text m ++ value_source p)) r (Pair key value ∷ []))
+      (sym h.separator_is)
+      (Element.pair (KeyFront-alike Alike.same h.key_front) h.some h.separates h.gives)
+  pair_element {c} {p} {key} {value} {r} (IsPair.is_lone h) =
+      subst₂ (λ s v. Element o (c ∷ []) s r (Pair key v ∷ [])) (sym (lone_source h.lone)) (sym h.lone.empty)
+      (Element.lone_key h.lone.may_be h.key_front h.some h.lone.next)
+
+  -- an empty source is a line
+  empty_lines : OwnLines o ([] ++ []) []
+  empty_lines = OwnLines.first (LineText.text Quoted.none (λ on. tt) (Str.closed Row.none refl))
 
   pub own_source : {c : ℕ} {p : Stretches} {key value r : Text} → IsPair o c p key value r
       → IsOwnSource o p.raw_value
-  own_source {p = p} {r = r} h =
-      record { space_after = p.space_after; rest = p.trailing_lines ++ r; lines = h.own_lines }
+  own_source {p = p} {r = r} (IsPair.has_value h) =
+      record { space_after = p.space_after; rest = p.note ++ (p.trailing_lines ++ r); lines = h.own_lines }
+  own_source {p = p} (IsPair.is_lone h) = record {
+    space_after = [];
+    rest = [];
+    lines = subst (λ t. OwnLines o (t ++ []) []) (sym (lone_parts h.lone).raw_value) empty_lines;
+  }
 
   span_like : {c d : ℕ} {x : Span} {r : Text} → Agree o (c ∷ []) (d ∷ []) (span_source x) → IsSpan o c x r
       → IsSpan o d x r
   span_like a IsSpan.general = IsSpan.general
   span_like a (IsSpan.header e) = IsSpan.header (Element-like a e)
-  span_like a (IsSpan.is_pair {p = p} h) = IsSpan.is_pair (record {
-    key_front = KeyFront-like (Agree-front (p.separator ∷ value_source p) a) h.key_front;
+  span_like a (IsSpan.is_pair {p = p} (IsPair.has_value h)) = IsSpan.is_pair (IsPair.has_value (record {
+    separator = h.separator;
+    separator_is = h.separator_is;
+    key_front = KeyFront-like (Agree-front (after_key_source p) a) h.key_front;
     some = h.some;
     separates = h.separates;
     gives = h.gives;
@@ -71,8 +118,15 @@ module _ {o : ParseOption} where
     white_after = h.white_after;
     are_trailing = h.are_trailing;
     own_lines = h.own_lines;
+    note = h.note;
     closed = h.closed;
-  })
+    unnoted = h.unnoted;
+  }))
+  span_like a (IsSpan.is_pair {p = p} (IsPair.is_lone h)) = IsSpan.is_pair (IsPair.is_lone (record {
+    lone = h.lone;
+    key_front = KeyFront-like (Agree-front (after_key_source p) a) h.key_front;
+    some = h.some;
+  }))
   span_like {c} {d} a (IsSpan.is_gap h) = IsSpan.is_gap (record {
     pieces = h.pieces;
     whole = h.whole;
@@ -83,7 +137,9 @@ module _ {o : ParseOption} where
   pub span_before : {c : ℕ} {x : Span} {r y : Text} → BeginAlike r y → IsSpan o c x r → IsSpan o c x y
   span_before a IsSpan.general = IsSpan.general
   span_before a (IsSpan.header e) = IsSpan.header (Element-before a e)
-  span_before a (IsSpan.is_pair {p = p} h) = IsSpan.is_pair (record {
+  span_before a (IsSpan.is_pair {p = p} (IsPair.has_value h)) = IsSpan.is_pair (IsPair.has_value (record {
+    separator = h.separator;
+    separator_is = h.separator_is;
     key_front = h.key_front;
     some = h.some;
     separates = h.separates;
@@ -92,9 +148,16 @@ module _ {o : ParseOption} where
     starts = h.starts;
     white_after = h.white_after;
     are_trailing = TrailingLines-before a h.are_trailing;
-    own_lines = own_before (BeginAlike-after p.trailing_lines a) h.own_lines;
+    own_lines = own_before (BeginAlike-after p.note (BeginAlike-after p.trailing_lines a)) h.own_lines;
+    note = tail_before (BeginAlike-after p.trailing_lines a) h.note;
     closed = h.closed;
-  })
+    unnoted = h.unnoted;
+  }))
+  span_before a (IsSpan.is_pair (IsPair.is_lone h)) = IsSpan.is_pair (IsPair.is_lone (record {
+    lone = lone_before a h.lone;
+    key_front = key_before a h.key_front;
+    some = h.some;
+  }))
   span_before a (IsSpan.is_gap h) = IsSpan.is_gap (record {
     pieces = h.pieces;
     whole = h.whole;

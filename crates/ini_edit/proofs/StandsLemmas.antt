@@ -1,6 +1,6 @@
 -- The items of a text at one of its pairs.
 use Rattle.std.proofs.Common.{◌≡◌, ◌∙◌, List, [], ◌∷◌, ◌++◌, append_assoc, sym, inl, inr}
-use Rattle.ini_text.specs.Grammar.Elements.{Given, Pair, Element}
+use Rattle.ini_text.specs.Grammar.Elements.{Given, Pair}
 use Rattle.ini_text.specs.Grammar.Texts.{Reads, Derives}
 use Rattle.ini_text.specs.Laws.Readings.{HasOneReading}
 use Rattle.ini_text.specs.declared.option.ParseOption.{ParseOption}
@@ -23,11 +23,11 @@ pub stands_derives : {o : ParseOption} {T : Text} {p : Stretches} {key value : T
     {before after : List Given}
     → StandsAt o T p key value before after → Derives o T (before ++ (Pair key value ∷ after))
 stands_derives s = reads-append s.reads
-    (Reads.step s.text (Element.pair s.key_front s.some s.separates s.gives) s.then)
+    (Reads.step s.text s.is_element s.then)
 
 -- the same up to that pair's end
 pub stands_up_to : {o : ParseOption} {T : Text} {p : Stretches} {key value : Text} {before after : List Given}
     → StandsAt o T p key value before after → Reads o T [] (before ++ Pair key value ∷ []) (up_to_end p)
 stands_up_to {p = p} s = reads-append s.reads
-    (Reads.step s.text (Element.pair s.key_front s.some s.separates s.gives)
+    (Reads.step s.text s.is_element
     (Reads.stay p.rest (s.text ∙ sym (append_assoc p.front (pair_of p) p.rest))))

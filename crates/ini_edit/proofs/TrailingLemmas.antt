@@ -1,18 +1,21 @@
 -- Quiet lines put after the lines of a multiline value: they are its own then, and change nothing of it.
 use Rattle.std.proofs.Common.{◌≡◌, ◌≢◌, ◌∙◌, ◌≤◌, ℕ, Bool, true, false, [], ◌∷◌, ◌++◌, ap}
-use Rattle.std.proofs.Common.{◌==◌, ◌||◌, append_assoc, append-nil, arith, eqb-true, length, length-append, refl, subst}
+use Rattle.std.proofs.Common.{◌==◌, ◌||◌, append_assoc, append-nil, arith, eqb-true, length, length-append}
+use Rattle.std.proofs.Common.{refl, subst}
 use Rattle.std.proofs.Common.{sym}
 use Rattle.std.proofs.lemmas.Bool.{both_ways, false_from_ne_true, false≢true}
 use Rattle.std.proofs.lemmas.List.Folds.{list_all-append}
 use Rattle.std.specs.List.{list_all}
 use Rattle.ini_text.specs.Grammar.CharacterKinds.{BeginsWith, BeginsWithNo, carriage_return, is_blank}
 use Rattle.ini_text.specs.Grammar.CharacterKinds.{is_line_end, is_line_feed, line_feed}
+use Rattle.ini_text.specs.Grammar.Lines.{LineTail}
 use Rattle.ini_text.specs.Grammar.Places.{OwnLines, TrailingLines}
 use Rattle.ini_text.specs.Grammar.Values.{CommentLine, LineEnd, MoreLines, Value}
 use Rattle.ini_text.specs.Grammar.WhiteSpace.{without_outer_line_feeds}
 use Rattle.ini_text.specs.declared.option.ParseOption.{ParseOption}
 use Rattle.ini_text.proofs.LawLemmas.OneAheadLemmas.{Alike, Alike-after, Alike-some, CommentLine-alike}
 use Rattle.ini_text.proofs.LawLemmas.OneAheadLemmas.{GoesOn-alike, Lead-alike, Line-alike, LineEnd-alike}
+use Rattle.ini_text.proofs.LawLemmas.OneAheadLemmas.{LineTail-alike}
 use Rattle.ini_text.proofs.ReaderLemmas.ValueReaderLemmas.{line_end-some}
 use Rattle.ini.specs.Texts.{Text}
 use Rattle.ini_edit.proofs.GluedLemmas.{feeds_after}
@@ -238,12 +241,19 @@ module _ {o : ParseOption} where
         (TrailingLines.lines on n.is_end n.are (rw
         (list_all-append is_line_feed u n.feeds, feeds, n.all) refl))
 
-    -- its own lines stay what they are
-    pub own_lengthened : {l t y : Text} → y ≢ [] → TrailingLines o t y → OwnLines o l (t ++ y)
-        → OwnLines o l ((t ++ m) ++ x)
-    own_lengthened some (TrailingLines.line off closes) own =
+    -- its own lines and their note stay what they are
+    lengthened_alike : {t y : Text} → y ≢ [] → TrailingLines o t y → Alike (t ++ y) ((t ++ m) ++ x)
+    lengthened_alike some (TrailingLines.line off closes) =
         absurd (both_ways o.enabled_indented_mutiline_value off on)
-    own_lengthened some (TrailingLines.end _) own = absurd (some refl)
-    own_lengthened {l} {y = y} some (TrailingLines.lines {e} {t} _ end there feeds) own =
-        subst (OwnLines o l) (sym (append_assoc (e ++ t) m x))
-        (own_alike (Alike-some (e ++ t) y (m ++ x) (omega (arith, length-append e t, line_end-some end))) own)
+    lengthened_alike some (TrailingLines.end _) = absurd (some refl)
+    lengthened_alike {y = y} some (TrailingLines.lines {e} {t} _ end there feeds) =
+        subst (Alike ((e ++ t) ++ y)) (sym (append_assoc (e ++ t) m x))
+        (Alike-some (e ++ t) y (m ++ x) (omega (arith, length-append e t, line_end-some end)))
+
+    pub own_lengthened : {l t y : Text} (n : Text) → y ≢ [] → TrailingLines o t y
+        → OwnLines o l (n ++ (t ++ y)) → OwnLines o l (n ++ ((t ++ m) ++ x))
+    own_lengthened n some lines own = own_alike (Alike-after n (lengthened_alike some lines)) own
+
+    pub note_lengthened : {n t y : Text} → y ≢ [] → TrailingLines o t y → LineTail n (t ++ y)
+        → LineTail n ((t ++ m) ++ x)
+    note_lengthened some lines tail = LineTail-alike (lengthened_alike some lines) tail

@@ -1,42 +1,51 @@
 -- The line by which a value is tried, and what is read of it.
 use Rattle.std.proofs.Common.{◌≡◌, ◌∙◌, ℕ, Bool, true, false, ◌||◌, ◌==◌, cond, not, [], ◌∷◌, ◌++◌}
 use Rattle.std.proofs.Common.{append-nil, append_assoc, ap, refl, subst, subst₂, sym, length, arith}
-use Rattle.std.proofs.Common.{length-append}
+use Rattle.std.proofs.Common.{Option, Some, length-append}
 use Rattle.std.specs.Str.{chars}
 use Rattle.std.specs.Prelude.{◌↔◌}
 use Rattle.std.proofs.lemmas.Bool.{and_from, and_parts, both_ways, false≢true, or_right}
-use Rattle.std.proofs.lemmas.List.{append_cancel_left}
+use Rattle.std.proofs.lemmas.List.{append_cancel_left, append_cancel_right}
 use Rattle.std.proofs.lemmas.List.Folds.{list_all-append}
 use Rattle.std.specs.List.{list_all}
 use Rattle.ini_text.specs.Options.Backslashes.{Backslash, begins_escape, is_special}
 use Rattle.ini_text.specs.Options.ReadOptions.{backslash_of}
 use Rattle.ini_text.specs.declared.option.LoneLine.{LoneLine}
-use Rattle.ini_text.specs.declared.option.LoneLine.TheVariants.{RunsOn, Refused}
+use Rattle.ini_text.specs.declared.option.LoneLine.TheVariants.{RunsOn, Refused, Key}
 use Rattle.ini_text.specs.declared.option.ParseOption.{ParseOption}
 use Rattle.ini_text.specs.declared.error.ParseKind.{ParseKind}
 use Rattle.ini_text.specs.declared.parser.placed.Content.{Content}
 use Rattle.ini_text.specs.declared.parser.placed.Content.TheVariants as contents
 use Rattle.ini_text.specs.declared.parser.placed.PlacedElement.{PlacedElement}
 use Rattle.ini_text.specs.Grammar.CharacterKinds.{BeginsWith, BeginsWithNo, backslash, equals}
-use Rattle.ini_text.specs.Grammar.CharacterKinds.{is_blank, is_inline_white, line_feed}
+use Rattle.ini_text.specs.Grammar.CharacterKinds.{is_blank, is_comment_mark, is_inline_white, is_separator}
+use Rattle.ini_text.specs.Grammar.CharacterKinds.{line_feed}
 use Rattle.ini_text.specs.Grammar.Elements.{Element, Header, Pair}
 use Rattle.ini_text.specs.Grammar.EscapeSequences.{EscapeSequence}
 use Rattle.ini_text.specs.Grammar.Keys.{KeyFront}
-use Rattle.ini_text.specs.Grammar.Places.{ArePlaced, OwnLines, SpaceAfter, Stretches, TrailingLines}
-use Rattle.ini_text.specs.Grammar.Places.{ends_bare, pair_source, value_source}
+use Rattle.ini_text.specs.Grammar.Lines.{LineTail, Note}
+use Rattle.ini_text.specs.Grammar.Places.{ArePlaced, FollowsKey, HasValue, OwnLines, SpaceAfter, Stretches}
+use Rattle.ini_text.specs.Grammar.Places.{TrailingLines, after_key_source, ends_bare, pair_source}
+use Rattle.ini_text.specs.Grammar.Places.{separator_text}
+use Rattle.ini_text.specs.Grammar.Places.{value_source}
 use Rattle.ini_text.specs.Grammar.Positions.{last_or}
-use Rattle.ini_text.specs.Grammar.Strings.{Row, Str, is_endpoint, key_ends}
-use Rattle.ini_text.specs.Inside.ElementReader.{element}
+use Rattle.ini_text.specs.Grammar.Strings.{Row, Str, is_endpoint, key_ends, noted_key_ends}
+use Rattle.ini_text.specs.Grammar.WhiteSpace.{end_trimmed, trimmed}
+use Rattle.ini_text.specs.Inside.ElementReader.{element, key_string}
 use Rattle.ini_text.specs.Inside.Reading.{found, stopped}
 use Rattle.ini_text.specs.Parsing.Items.{cow_text}
 use Rattle.ini_text.specs.Parsing.Places.{HasPlaces, StandsBetween, StopsAfter, gives}
 use Rattle.ini_text.proofs.PlainLemmas.PlainPairLemmas.{separator_closes}
 use Rattle.ini_text.proofs.ReaderLemmas.ElementReaderLemmas.{element-finds, element-stops}
+use Rattle.ini_text.proofs.ReaderLemmas.KeyReaderLemmas.{key_string-reads}
 use Rattle.ini.specs.Texts.{Text}
 use Rattle.ini_edit.specs.Inside.SourceEnds.{GivesValue, MatchesPair}
 use Rattle.ini_edit.specs.SourceWritten.{IsReadAs, tried_key, tried_line}
+use Rattle.ini_edit.proofs.CharsLemmas.{chars-feed}
 use Rattle.ini_edit.proofs.OwnLineLemmas.{own_one}
-use Rattle.ini_edit.proofs.ReadAsLemmas.{no_lead, read_starts}
+use Rattle.ini_edit.proofs.PadLemmas.{no_note_follows}
+use Rattle.ini_edit.proofs.ReadAsLemmas.{no_lead, read_starts, read_value}
+use Rattle.ini_edit.proofs.ValueLemmas.{tail_closes}
 
 -- White space at the end of a value's own lines stands after the value, unless a backslash takes it along.
 is_bare : Backslash → ℕ → Bool
@@ -93,10 +102,9 @@ space_none {b} (SpaceAfter.escaped front white special all)
 space_none {a = a} one (SpaceAfter.escaped front white special all) same = sym (append-nil a) ∙ same
 
 -- the key and what separates it
-record KeyTried (key : Text) (m : ℕ) (r rest given : Text) : Type 0 where
+record KeyTried (key x rest given : Text) : Type 0 where
   key_is : key ≡ tried_key
-  separator_is : m ≡ equals
-  rest_is : r ≡ rest
+  after_is : x ≡ equals ∷ rest
   given_is : given ≡ tried_key
 
 escape_begins : {e : Bool} {p w : Text} → EscapeSequence e p w → (q : Text) × (p ≡ backslash ∷ q)
@@ -114,39 +122,18 @@ no_escape c s r is apart same =
     let slash : c ≡ backslash = cc in
     absurd (false≢true (sym apart ∙ rw slash refl))
 
--- a row up to the separator
-row_empty : {e : Backslash} (line : LoneLine) {s v rest : Text} (m : ℕ) (r : Text) → Row e (key_ends line) s v
-    → s ++ m ∷ r ≡ equals ∷ rest → (s ≡ []) × (v ≡ [])
-row_empty line m r Row.none same = (refl, refl)
-row_empty line m r (Row.raw {c} n inside row) same =
-    let is : c ≡ equals = cc in
-    absurd (both_ways (is_endpoint (key_ends line) c) inside
-    (subst (λ z. is_endpoint (key_ends line) z ≡ true) (sym is)
-    (separator_closes line equals refl)))
-row_empty line {rest = rest} m r (Row.escape {p = p} {s = s} special is row) same =
-    no_escape equals (s ++ m ∷ r) rest is refl (sym (append_assoc p s (m ∷ r)) ∙ same)
-
+-- the tried key before its separator
 no_end_tried : (line : LoneLine) → is_endpoint (key_ends line) 107 ≡ false
 no_end_tried RunsOn = refl
 no_end_tried Refused = refl
+no_end_tried Key = refl
 
-row_key : {e : Backslash} (line : LoneLine) {s v r rest : Text} {m : ℕ} → Row e (key_ends line) s v
-    → is_endpoint (key_ends line) m ≡ true
-    → s ++ m ∷ r ≡ tried_key ++ equals ∷ rest → (s ≡ tried_key) × (v ≡ tried_key) × (m ∷ r ≡ equals ∷ rest)
-row_key line {m = m} Row.none ends same =
-    let is : m ≡ 107 = cc in
-    absurd (both_ways (is_endpoint (key_ends line) m)
-    (subst (λ z. is_endpoint (key_ends line) z ≡ false) (sym is) (no_end_tried line)) ends)
-row_key line {r = r} {rest} {m} (Row.raw {c} {s} {v} n inside row) ends same =
-    let is : c ≡ 107 = cc in
-    let more : s ++ m ∷ r ≡ equals ∷ rest = cc in
-    let x = row_empty line m r row more in (
-      ap (λ z. c ∷ z) x.0 ∙ ap (λ z. z ∷ []) is,
-      ap (λ z. c ∷ z) x.1 ∙ ap (λ z. z ∷ []) is,
-      ap (λ z. z ++ m ∷ r) (sym x.0) ∙ more,
-    )
-row_key line {r = r} {rest} {m} (Row.escape {p = p} {s = s} special is row) ends same =
-    no_escape 107 (s ++ m ∷ r) (equals ∷ rest) is refl (sym (append_assoc p s (m ∷ r)) ∙ same)
+tried_str : (o : ParseOption) (rest : Text)
+    → Str (backslash_of o) (noted_key_ends o) tried_key (equals ∷ rest) tried_key
+tried_str o rest =
+    Str.closed
+    (Row.raw refl (no_end_tried o.line_without_separator) (no_note_follows (noted_key_ends o) 107 [] refl)
+    Row.none) (separator_closes o.line_without_separator equals refl)
 
 blank_apart : {X : Type 0} (w y rest : Text) → BeginsWith is_blank w → w ++ y ≡ tried_key ++ equals ∷ rest → X
 blank_apart [] y rest begins same = absurd (false≢true (sym begins))
@@ -154,23 +141,31 @@ blank_apart (c ∷ w) y rest begins same =
     let is : c ≡ 107 = cc in
     absurd (false≢true (subst (λ z. is_blank z ≡ true) is begins))
 
-key_tried : {o : ParseOption} {key r given rest : Text} {m : ℕ} → KeyFront o [] key (m ∷ r) given
-    → key ++ m ∷ r ≡ tried_key ++ equals ∷ rest → KeyTried key m r rest given
-key_tried {o} {r = r} {rest = rest} {m} (KeyFront.unindented {v = v} begins (Str.closed row ends)) same =
-    let x = row_key o.line_without_separator row ends same in
-    let after : m ∷ r ≡ equals ∷ rest = x.2 in
+str_tried : (o : ParseOption) (kept : Bool) {s v x rest : Text}
+    → Str (backslash_of o) (noted_key_ends o) s x v → s ++ x ≡ tried_key ++ equals ∷ rest
+    → KeyTried s x rest (cond kept (end_trimmed v) (trimmed v))
+str_tried o kept {s} {v} {x} {rest} str same =
+    let both : found v x ≡ found tried_key (equals ∷ rest) =
+    sym ((key_string-reads o).finds str) ∙ ap (key_string o) same
+    ∙ (key_string-reads o).finds (tried_str o rest) in
+    let after : x ≡ equals ∷ rest = cc in
+    let given : v ≡ tried_key = cc in
     record {
-      key_is = x.0;
-      separator_is = cc;
-      rest_is = cc;
-      given_is = rw x.1 (at o.enabled_preserve_key_leading_whitespace);
+      key_is = append_cancel_right s tried_key x (same ∙ ap (λ z. tried_key ++ z) (sym after));
+      after_is = after;
+      given_is = rw given (at kept);
     }
   where
     at : (kept : Bool) → cond kept tried_key tried_key ≡ tried_key
     at true = refl
     at false = refl
-key_tried {r = r} {rest = rest} {m} (KeyFront.indented {w} {s} i begins str) same =
-    blank_apart w (s ++ m ∷ r) rest i.some (sym (append_assoc w s (m ∷ r)) ∙ same)
+
+key_tried : {o : ParseOption} {key x given rest : Text} → KeyFront o [] key x given
+    → key ++ x ≡ tried_key ++ equals ∷ rest → KeyTried key x rest given
+key_tried {o} (KeyFront.unindented starts str) same =
+    str_tried o o.enabled_preserve_key_leading_whitespace str same
+key_tried {x = x} {rest = rest} (KeyFront.indented {w} {s} i starts str) same =
+    blank_apart w (s ++ x) rest i.some (sym (append_assoc w s x) ∙ same)
 
 -- the line
 abbrev pub tried_text : Text → Text
@@ -180,10 +175,6 @@ tried_text source = tried_key ++ equals ∷ (source ++ line_feed ∷ [])
 chars-key : chars (107 ∷ 61 ∷ []) ≡ tried_key ++ equals ∷ []
 unfolding chars
 chars-key = refl
-
-chars-feed : chars (10 ∷ []) ≡ line_feed ∷ []
-unfolding chars
-chars-feed = refl
 
 pub tried_made : (source : Text) {key line whole : Text} → key ≡ chars (107 ∷ 61 ∷ []) → line ≡ key ++ source
     → whole ≡ line ++ chars (10 ∷ []) → whole ≡ tried_text source
@@ -244,56 +235,90 @@ after_none z (SpaceAfter.bare {space_after = c ∷ x} ends all) same =
     no_white_feed c is (and_parts (is_inline_white c) (list_all is_inline_white x) all).0
 after_none z (SpaceAfter.escaped front white special all) same = refl
 
+-- nor a note
+tail_none : {n z : Text} → LineTail n z → n ++ z ≡ line_feed ∷ [] → n ≡ []
+tail_none (LineTail.none closes) same = refl
+tail_none (LineTail.note (Note.note {m} mark within closes)) same =
+    let is : m ≡ line_feed = cc in absurd (false≢true (subst (λ z. is_comment_mark z ≡ true) is mark))
+
 -- what follows the raw value
 abbrev after_raw : Stretches → Text → Text
-after_raw p r = p.space_after ++ (p.trailing_lines ++ r)
+after_raw p r = p.space_after ++ (p.note ++ (p.trailing_lines ++ r))
 
-abbrev made : (key : Text) (m : ℕ) (before value after lines : Text) → Stretches
-made key m before value after lines = record {
+abbrev made : (key : Text) (m : Option ℕ) (before value after note lines : Text) → Stretches
+made key m before value after note lines = record {
   key = key;
   separator = m;
   space_before = before;
   raw_value = value;
   space_after = after;
+  note = note;
   trailing_lines = lines;
 }
 
 module _ {o : ParseOption} {p : Stretches} {r key value : Text} (source : Text)
     (placed : ArePlaced o [] p r key value) (whole : pair_source p ++ r ≡ tried_text source) where
-  key_read : KeyTried p.key p.separator (value_source p ++ r) (source ++ line_feed ∷ []) key
-  key_read = key_tried placed.key_front
-      (sym (append_assoc p.key (p.separator ∷ value_source p) r) ∙ whole)
+  key_read : KeyTried p.key (after_key_source p ++ r) (source ++ line_feed ∷ []) key
+  key_read = key_tried placed.key_front (sym (append_assoc p.key (after_key_source p) r) ∙ whole)
+
+  -- which is no key alone
+  valued : HasValue o p r value
+  valued = at placed.after_key
+    where
+      at : FollowsKey o p r value → HasValue o p r value
+      at (FollowsKey.has_value f) = f
+      at (FollowsKey.is_lone f) =
+          let none : after_key_source p ≡ [] =
+          ap (λ m. separator_text m ++ value_source p) f.no_separator ∙ f.nothing in
+          let follows : r ≡ equals ∷ (source ++ line_feed ∷ []) =
+          ap (λ t. t ++ r) (sym none) ∙ key_read.after_is in
+          let no : is_separator equals ≡ false = subst (BeginsWithNo is_separator) follows f.next in
+          absurd (false≢true (sym no))
+
+  after_read : valued.separator ∷ (value_source p ++ r) ≡ equals ∷ (source ++ line_feed ∷ [])
+  after_read = ap (λ m. (separator_text m ++ value_source p) ++ r) (sym valued.separator_is) ∙ key_read.after_is
+
+  separator_read : p.separator ≡ Some equals
+  separator_read =
+      let read = after_read in
+      let same : valued.separator ≡ equals = cc in valued.separator_is ∙ ap Some same
 
   value_whole : p.space_before ++ (p.raw_value ++ after_raw p r)
       ≡ source ++ line_feed ∷ []
   value_whole =
+      let read = after_read in
       let seam : value_source p ++ r
       ≡ p.space_before ++ (p.raw_value ++ after_raw p r) = simp append_assoc in
-      sym seam ∙ key_read.rest_is
+      let rest : value_source p ++ r ≡ source ++ line_feed ∷ [] = cc in
+      sym seam ∙ rest
 
   -- a pair of this source is the one that is tried
   tried : p.raw_value ≡ source → IsReadAs o source value
   tried same =
       let before = front_none source p.space_before (after_raw p r)
-      placed.space_before.white (ap (λ z. p.space_before ++ (z ++ after_raw p r))
+      valued.space_before.white (ap (λ z. p.space_before ++ (z ++ after_raw p r))
       (sym same) ∙ value_whole) in
-      let rest : p.space_after ++ (p.trailing_lines ++ r) ≡ line_feed ∷ [] =
+      let rest : after_raw p r ≡ line_feed ∷ [] =
       append_cancel_left source (after_raw p r) (line_feed ∷ [])
       (ap (λ z. z ++ after_raw p r) (sym same)
       ∙ ap (λ z. z ++ (p.raw_value ++ after_raw p r)) (sym before) ∙ value_whole) in
-      let after = after_none (p.trailing_lines ++ r)
-      (subst (λ z. SpaceAfter (backslash_of o) z p.space_after) same placed.space_after) rest in
-      let all : p ≡ tried_line source p.trailing_lines =
-      ap (λ z. made z p.separator p.space_before p.raw_value p.space_after p.trailing_lines) key_read.key_is
-      ∙ ap (λ z. made tried_key z p.space_before p.raw_value p.space_after p.trailing_lines)
-      key_read.separator_is
-      ∙ ap (λ z. made tried_key equals z p.raw_value p.space_after p.trailing_lines) before
-      ∙ ap (λ z. made tried_key equals [] z p.space_after p.trailing_lines) same
-      ∙ ap (λ z. made tried_key equals [] source z p.trailing_lines) after in
+      let lines = p.trailing_lines in
+      let after = after_none (p.note ++ (lines ++ r))
+      (subst (λ z. SpaceAfter (backslash_of o) z p.space_after) same valued.space_after) rest in
+      let following : p.note ++ (lines ++ r) ≡ line_feed ∷ [] =
+      ap (λ z. z ++ (p.note ++ (lines ++ r))) (sym after) ∙ rest in
+      let none = tail_none valued.note following in
+      let all : p ≡ tried_line source lines =
+      ap (λ z. made z p.separator p.space_before p.raw_value p.space_after p.note lines) key_read.key_is
+      ∙ ap (λ z. made tried_key z p.space_before p.raw_value p.space_after p.note lines) separator_read
+      ∙ ap (λ z. made tried_key (Some equals) z p.raw_value p.space_after p.note lines) before
+      ∙ ap (λ z. made tried_key (Some equals) [] z p.space_after p.note lines) same
+      ∙ ap (λ z. made tried_key (Some equals) [] source z p.note lines) after
+      ∙ ap (λ z. made tried_key (Some equals) [] source [] z lines) none in
       record {
         trailing_lines = p.trailing_lines;
         rest = r;
-        line_end = ap (λ z. z ++ (p.trailing_lines ++ r)) (sym after) ∙ rest;
+        line_end = ap (λ z. z ++ (lines ++ r)) (sym none) ∙ following;
         placed = subst₂ (λ q k. ArePlaced o [] q r k value) all key_read.given_is placed;
       }
 
@@ -301,21 +326,22 @@ module _ {o : ParseOption} {p : Stretches} {r key value : Text} (source : Text)
   same_source : {other : Text} (h : IsReadAs o source other) → h.rest ≡ r → p.raw_value ≡ source
   same_source h ends =
       let before = no_lead p.space_before (p.raw_value ++ after_raw p r) []
-      placed.space_before.white
+      valued.space_before.white
       (subst (λ z. BeginsWithNo is_inline_white z)
       (sym (append-nil (p.space_before ++ (p.raw_value ++ after_raw p r)) ∙ value_whole))
       (read_starts h)) in
       let rest : p.raw_value ++ after_raw p r ≡ source ++ line_feed ∷ [] =
       ap (λ z. z ++ (p.raw_value ++ after_raw p r)) (sym before) ∙ value_whole in
-      let mine = subst (λ z. OwnLines o (source ++ []) (h.trailing_lines ++ z)) ends h.placed.raw_value in
-      let lines = subst (TrailingLines o h.trailing_lines) ends h.placed.trailing_lines in
-      let both : (p.raw_value ++ p.space_after) ++ (p.trailing_lines ++ r)
-      ≡ (source ++ []) ++ (h.trailing_lines ++ r) =
-      append_assoc p.raw_value p.space_after (p.trailing_lines ++ r) ∙ rest
+      let mine = subst (λ z. OwnLines o (source ++ []) (h.trailing_lines ++ z)) ends (read_value h).raw_value in
+      let lines = subst (TrailingLines o h.trailing_lines) ends (read_value h).trailing_lines in
+      let both : (p.raw_value ++ p.space_after) ++ (p.note ++ (p.trailing_lines ++ r))
+      ≡ (source ++ []) ++ ([] ++ (h.trailing_lines ++ r)) =
+      append_assoc p.raw_value p.space_after (p.note ++ (p.trailing_lines ++ r)) ∙ rest
       ∙ ap (λ z. source ++ z) (sym h.line_end ∙ ap (λ z. h.trailing_lines ++ z) ends)
       ∙ ap (λ z. z ++ (h.trailing_lines ++ r)) (sym (append-nil source)) in
-      space_none h.placed.space_after placed.space_after
-      (own_one placed.raw_value placed.trailing_lines mine lines both ∙ append-nil source)
+      space_none (read_value h).space_after valued.space_after
+      (own_one valued.raw_value valued.note valued.trailing_lines mine
+      (LineTail.none (tail_closes lines)) lines both ∙ append-nil source)
 
 module _ {o : ParseOption} {source value : Text} where
   -- the element that is tried
@@ -328,7 +354,7 @@ module _ {o : ParseOption} {source value : Text} where
       ∙ ap (λ z. tried_key ++ equals ∷ z) (append_assoc source h.trailing_lines h.rest
       ∙ ap (λ z. source ++ z) h.line_end) in
       ap (element o []) (sym whole)
-      ∙ element-finds o [] (Element.pair h.placed.key_front h.placed.some h.placed.separates h.placed.gives)
+      ∙ element-finds o [] (Element.pair h.placed.key_front h.placed.some refl (read_value h).gives)
 
   by_content : (content : Content) (s rest : Text) → tried_text source ≡ s ++ rest
       → Element o [] s rest (gives content) → HasPlaces o [] s rest content

@@ -6,8 +6,8 @@ use Rattle.ini.proofs.KeepingLemmas.{name_refl, names_equal, text_refl, texts_eq
 use Rattle.ini_edit.specs.Inside.Sortings.{pair_unit_of, says_same_pair_unit, says_same_section_unit}
 use Rattle.ini_edit.specs.Inside.Sortings.{section_unit_of}
 use Rattle.ini_edit.specs.Inside.SourceLayouts.{all_same}
-use Rattle.ini_edit.specs.SourceEntries.{comments_in}
-use Rattle.ini_edit.specs.Sorting.{PairSaid, SectionSaid, pair_said, section_said}
+use Rattle.ini_edit.specs.SourceEntries.{behind_value, comments_in}
+use Rattle.ini_edit.specs.Sorting.{PairSaid, PairUnit, SectionSaid, pair_said, section_said}
 use Rattle.ini_edit.specs.declared.source.layout.units.PairUnit.{PairUnit as LentPair}
 use Rattle.ini_edit.specs.declared.source.layout.units.SectionUnit.{SectionUnit as LentSection}
 use Rattle.ini_edit.proofs.SourceEntriesLemmas.{lists_same, lists_say}
@@ -32,6 +32,10 @@ said_of p = pair_said (pair_unit_of p)
 abbrev section_said_of : LentSection → SectionSaid
 section_said_of s = section_said (section_unit_of s)
 
+-- the comments behind the value of a unit's pair
+abbrev behind : PairUnit → Text
+behind u = comments_in (behind_value u.pair.stretches u.rest)
+
 pair_same : (p q : LentPair) → says_same_pair_unit p q ≡ true → said_of p ≡ said_of q
 pair_same p q h =
     let u = pair_unit_of p in
@@ -39,14 +43,14 @@ pair_same p q h =
     let key = and_parts (is_text u.pair.key v.pair.key) _ h in
     let value = and_parts (is_text u.pair.value v.pair.value) _ key.1 in
     let above = and_parts (is_text (comments_in u.above) (comments_in v.above)) _ value.1 in
-    ap (λ a. pair_of a u.pair.key u.pair.value (comments_in u.rest))
+    ap (λ a. pair_of a u.pair.key u.pair.value (behind u))
     (texts_equal (comments_in u.above) (comments_in v.above) above.0)
-    ∙ ap (λ k. pair_of (comments_in v.above) k u.pair.value (comments_in u.rest))
+    ∙ ap (λ k. pair_of (comments_in v.above) k u.pair.value (behind u))
     (texts_equal u.pair.key v.pair.key key.0)
-    ∙ ap (λ x. pair_of (comments_in v.above) v.pair.key x (comments_in u.rest))
+    ∙ ap (λ x. pair_of (comments_in v.above) v.pair.key x (behind u))
     (texts_equal u.pair.value v.pair.value value.0)
     ∙ ap (λ r. pair_of (comments_in v.above) v.pair.key v.pair.value r)
-    (texts_equal (comments_in u.rest) (comments_in v.rest) above.1)
+    (texts_equal (behind u) (behind v) above.1)
 
 pair_says : (p q : LentPair) → said_of p ≡ said_of q → says_same_pair_unit p q ≡ true
 pair_says p q h =
@@ -55,7 +59,7 @@ pair_says p q h =
     ap₂ (λ a b. a && b) (texts_fit u.pair.key v.pair.key (ap (λ e. e.key) h))
     (ap₂ (λ a b. a && b) (texts_fit u.pair.value v.pair.value (ap (λ e. e.value) h))
     (ap₂ (λ a b. a && b) (texts_fit (comments_in u.above) (comments_in v.above) (ap (λ e. e.above) h))
-    (texts_fit (comments_in u.rest) (comments_in v.rest) (ap (λ e. e.rest) h))))
+    (texts_fit (behind u) (behind v) (ap (λ e. e.rest) h))))
 
 section_same : (s t : LentSection) → says_same_section_unit s t ≡ true
     → section_said_of s ≡ section_said_of t

@@ -10,11 +10,10 @@ use Rattle.std.specs.List.{count_by}
 use Rattle.std.specs.Option.{option_map}
 use Rattle.ini_text.specs.declared.option.ParseOption.{ParseOption}
 use Rattle.ini.specs.Texts.{Text, is_text}
-use Rattle.ini_edit.specs.Inside.SourceEnds.{IsWithout, at_end}
+use Rattle.ini_edit.specs.Inside.SourceEnds.{IsWithout}
 use Rattle.ini_edit.specs.SourceEdits.{with_pairs}
-use Rattle.ini_edit.specs.SourceEditsDelete.{gap_after, line_end_left, lines_after}
 use Rattle.ini_edit.specs.SourceEditsDelete.{pair_taken_out, rest_put, with_rest}
-use Rattle.ini_edit.specs.SourcePlaces.{last_before_pair, last_changed, nth_place, one_on}
+use Rattle.ini_edit.specs.SourcePlaces.{Place, last_changed, nth_place, one_on}
 use Rattle.ini_edit.specs.Sources.{PairPiece, SectionPiece}
 use Rattle.ini_edit.proofs.DeletedSourceLemmas.{count_apart, count_fits, keyed_count, taken_given}
 use Rattle.ini_edit.proofs.FirstLemmas.{rest_here}
@@ -65,28 +64,27 @@ rest_more o lines g s ps [] after = refl
 rest_more o lines g s ps (x ∷ xs) after =
     ap (λ l. with_pairs s (l ++ after)) (append-nil (last_changed (with_rest o lines g) (x ∷ xs)))
 
-module _ (o : ParseOption) (front : ℕ) where
-  taken_more : (s : SectionPiece) (p : PairPiece) (after : List PairPiece)
-      → with_pairs (pair_taken_out o front s (at_end s.pairs p))
-      ((pair_taken_out o front s (at_end s.pairs p)).pairs ++ after)
-      ≡ pair_taken_out o front (with_pairs s (s.pairs ++ p ∷ after))
-      (record { before = s.pairs; here = p; after = after })
-  taken_more s p after =
-      rest_more o (line_end_left o (last_before_pair front s (at_end s.pairs p)) p ++ lines_after o p)
-      (gap_after o p) s (s.pairs ++ p ∷ after) s.pairs after
+pub pushed_rest : (o : ParseOption) (s : SectionPiece) (x : PairPiece) (after : List PairPiece)
+    {next : SectionPiece} (lines g : Text) → next ≡ rest_put o lines g s s.pairs []
+    → with_pairs next (next.pairs ++ after)
+    ≡ rest_put o lines g (with_pairs s (s.pairs ++ x ∷ after)) s.pairs after
+pushed_rest o s x after {next} lines g put =
+    ap (λ t. with_pairs t (t.pairs ++ after)) put ∙ rest_more o lines g s (s.pairs ++ x ∷ after) s.pairs after
 
+module _ (o : ParseOption) (front : ℕ) where
   module _ (key : Text) (kept : ℕ) where
     abbrev keyed : PairPiece → Bool
     keyed p = is_text key p.key
 
-    taken_as_many : (s : SectionPiece) (p : PairPiece)
-        → count_by keyed (pair_taken_out o front s (at_end s.pairs p)).pairs ≡ count_by keyed s.pairs
+    taken_as_many : (s : SectionPiece) (p : Place PairPiece)
+        → count_by keyed (pair_taken_out o front s p).pairs ≡ count_by keyed (p.before ++ p.after)
     taken_as_many s p =
-        keyed_count o None key (pair_taken_out o front s (at_end s.pairs p)).pairs
-        ∙ ap (λ g. count_by (λ g. is_text key g.0) g.1) (taken_given o front s (at_end s.pairs p))
-        ∙ sym (keyed_count o None key (s.pairs ++ [])) ∙ ap (count_by keyed) (append-nil s.pairs)
+        keyed_count o None key (pair_taken_out o front s p).pairs
+        ∙ ap (λ g. count_by (λ g. is_text key g.0) g.1) (taken_given o front s p)
+        ∙ sym (keyed_count o None key (p.before ++ p.after))
 
-    -- of the old section the pairs up to the index are copied or out, and of the key so many are left to copy
+    -- of the old section the pairs up to the index are copied or out, and of the key so many are left to
+    -- copy
     pub record WithoutSoFar (old : SectionPiece) (items : List PairPiece) (new : SectionPiece)
         (left i : ℕ) : Type 0 where
       pub goes_on : {all : SectionPiece}
@@ -120,7 +118,8 @@ module _ (o : ParseOption) (front : ℕ) where
             ∙ ap (λ l. new.pairs ++ l) (sym (rest_here items i x within is))
 
         put : {y : PairPiece} {next : SectionPiece} {fewer : ℕ} → y ≡ x
-            → next ≡ with_pairs new (new.pairs ++ y ∷ []) → count_by keyed (x ∷ []) + fewer ≡ left → WithoutSoFar old items next fewer (i + 1)
+            → next ≡ with_pairs new (new.pairs ++ y ∷ []) → count_by keyed (x ∷ []) + fewer ≡ left
+            → WithoutSoFar old items next fewer (i + 1)
         put {y} {next} {fewer} copy pushed one =
             let now : next ≡ with_pairs new (new.pairs ++ x ∷ []) =
             pushed ∙ ap (λ z. with_pairs new (new.pairs ++ z ∷ [])) copy in
@@ -147,19 +146,28 @@ module _ (o : ParseOption) (front : ℕ) where
             put copy pushed (omega (arith, one, more))
 
         pub without_out : {next : SectionPiece} → keyed x ≡ true → left ≡ 0
-            → next ≡ pair_taken_out o front new (at_end new.pairs x)
+            → with_pairs next (next.pairs ++ drop (i + 1) items)
+            ≡ pair_taken_out o front (with_pairs new (new.pairs ++ x ∷ drop (i + 1) items))
+            (record { before = new.pairs; here = x; after = drop (i + 1) items })
             → WithoutSoFar old items next left (i + 1)
         without_out {next} fits none taken =
-            let s = with_pairs new (new.pairs ++ x ∷ drop (i + 1) items) in
+            let after = drop (i + 1) items in
+            let s = with_pairs new (new.pairs ++ x ∷ after) in
+            let place : Place PairPiece = record { before = new.pairs; here = x; after = after } in
             let all_copied : count_by keyed new.pairs ≡ kept = omega (arith, none, so_far.copied) in
+            let all : count_by keyed (next.pairs ++ after) ≡ count_by keyed (new.pairs ++ after) =
+            ap (λ s. count_by keyed s.pairs) taken ∙ taken_as_many s place in
             let same : count_by keyed next.pairs ≡ count_by keyed new.pairs =
-            ap (λ s. count_by keyed s.pairs) taken ∙ taken_as_many new x in
+            omega (
+              arith,
+              all,
+              sum_by-append (λ z. cond (keyed z) 1 0) next.pairs after,
+              sum_by-append (λ z. cond (keyed z) 1 0) new.pairs after,
+            ) in
             record {
               goes_on = λ {all} h. so_far.goes_on (subst (λ s. IsWithout o front key kept s all)
                   (ap (λ l. with_pairs new (new.pairs ++ l)) (sym (rest_here items i x within is)))
                   (IsWithout.one_more (nth_after keyed new.pairs x (drop (i + 1) items) kept all_copied fits)
-                  (subst (λ s. IsWithout o front key kept s all)
-                  (ap (λ s. with_pairs s (s.pairs ++ drop (i + 1) items)) taken
-                  ∙ taken_more new x (drop (i + 1) items)) h)));
+                  (subst (λ s. IsWithout o front key kept s all) taken h)));
               copied = omega (arith, same, so_far.copied);
             }

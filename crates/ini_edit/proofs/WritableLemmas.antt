@@ -7,7 +7,8 @@ use Rattle.std.specs.Bool.{Decides}
 use Rattle.std.specs.Cmp.Lexicographic.{bytes_decides}
 use Rattle.ini_text.specs.Grammar.CharacterKinds.{is_quote_mark, BeginsWithNo}
 use Rattle.ini_text.specs.Grammar.WhiteSpace.{trimmed}
-use Rattle.ini_text.specs.Inside.PlainTests.{begins, escapes_nothing}
+use Rattle.ini_text.specs.Grammar.CharacterKinds.{begins}
+use Rattle.ini_text.specs.Inside.PlainTests.{escapes_nothing}
 use Rattle.ini_text.specs.Options.Backslashes.{is_special}
 use Rattle.ini_text.specs.Options.ReadOptions.{backslash_of, with_raw_backslashes, without_escapes}
 use Rattle.ini_text.specs.declared.option.ParseOption.{ParseOption}
@@ -18,7 +19,7 @@ use Rattle.ini_text.specs.declared.write.policy.EscapePolicy.TheVariants.{Reserv
 use Rattle.ini_text.specs.declared.write.policy.EscapePolicy.TheVariants.{ReservedUnicodeExtended, Everything}
 use Rattle.ini_edit.specs.Endings.{Ending, ending}
 use Rattle.ini_edit.specs.Inside.RawTests.{is_closed, is_raw_value}
-use Rattle.ini_edit.specs.Writable.{IsRawValue}
+use Rattle.ini_edit.specs.Writable.{IsRawValue, has_note}
 
 not_decides : (b : Bool) → Decides (not b) (b ≡ false)
 not_decides true = (λ e. sym e, λ e. sym e)
@@ -41,6 +42,10 @@ no_mark_decides true [] = (λ e on. tt, λ h. refl)
 no_mark_decides true (c ∷ cs) =
     let none = not_decides (is_quote_mark c) in (λ e on. none.0 e, λ h. none.1 (h refl))
 
+no_note_decides : (on has : Bool) → Decides (not on || not has) (on ≡ true → has ≡ false)
+no_note_decides false has = (λ e on. absurd (false≢true on), λ h. refl)
+no_note_decides true has = let none = not_decides has in (λ e on. none.0 e, λ h. none.1 (h refl))
+
 closed_decides : (e : Ending) → Decides (is_closed e) (e ≢ Ending.escape)
 closed_decides Ending.inside = (λ e. λ q. cc, λ e. refl)
 closed_decides Ending.escape = (λ e. absurd (false≢true e), λ e. absurd (e refl))
@@ -59,18 +64,20 @@ raw_decides o policy value =
       unwritten = e.1.0;
       is_trimmed = e.1.1.0;
       no_quote_mark = e.1.1.1.0;
-      one_line = e.1.1.1.1.0;
-      no_lone_backslash = e.1.1.1.1.1;
+      no_note = e.1.1.1.1.0;
+      one_line = e.1.1.1.1.1.0;
+      no_lone_backslash = e.1.1.1.1.1.1;
     })
     (λ r. (
       r.unread,
-      (r.unwritten, (r.is_trimmed, (r.no_quote_mark, (r.one_line, r.no_lone_backslash)))),
+      (r.unwritten, (r.is_trimmed, (r.no_quote_mark, (r.no_note, (r.one_line, r.no_lone_backslash))))),
     ))
     (Decides-and _ _ (not_decides o.enabled_escape)
     (Decides-and _ _ (nothing_decides policy)
     (Decides-and _ _ (bytes_decides (trimmed value) value)
     (Decides-and _ _ (no_mark_decides o.enabled_quote value)
-    (Decides-and _ _ (itself _) (closed_decides (ending o value)))))))
+    (Decides-and _ _ (no_note_decides o.enabled_inline_comment (has_note value))
+    (Decides-and _ _ (itself _) (closed_decides (ending o value))))))))
 
 -- a folder of Windows
 folder : IsRawValue without_escapes Nothing (codes "C:\\new")
@@ -108,6 +115,11 @@ space_at_the_end o policy r = let same : codes "a\\" ≡ codes "a\\ " = r.is_tri
 -- a quote's mark at the front would open a quote
 mark_at_the_front : (policy : EscapePolicy) → ¬ IsRawValue without_escapes policy (codes "'\\n'")
 mark_at_the_front policy r = true≢false (r.no_quote_mark refl)
+
+-- behind a blank a comment mark would begin a note, where inline comments are on
+mark_behind_a_blank : (o : ParseOption) (policy : EscapePolicy) → o.enabled_inline_comment ≡ true
+    → ¬ IsRawValue o policy (codes "a ;b")
+mark_behind_a_blank o policy on r = true≢false (r.no_note on)
 
 -- the policy would double each backslash
 doubled : (o : ParseOption) → ¬ IsRawValue o Basics (codes "C:\\new")

@@ -20,6 +20,7 @@ stretches_at front places rest = record {
   space_before = chars places.space_before.now;
   raw_value = chars places.raw_value.now;
   space_after = chars places.space_after.now;
+  note = chars places.note.now;
   trailing_lines = chars places.trailing_lines.now;
   rest = rest;
 }
@@ -35,6 +36,7 @@ source_of p = record {
   space_before = p.space_before;
   raw_value = p.raw_value;
   space_after = p.space_after;
+  note = p.note;
   trailing_lines = p.trailing_lines;
 }
 

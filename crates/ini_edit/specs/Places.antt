@@ -1,31 +1,32 @@
 -- Where a pair stands in a text, and the text with another value in its place.
-use Rattle.std.specs.Prelude.{◌≡◌, ◌≢◌, ℕ, true, List, [], ◌∷◌, ◌++◌}
-use Rattle.std.specs.List.{list_all}
-use Rattle.ini_text.specs.Grammar.CharacterKinds.{is_blank, is_inline_white, is_line_end}
-use Rattle.ini_text.specs.Grammar.CharacterKinds.{is_separator, BeginsWithNo}
-use Rattle.ini_text.specs.Grammar.Values.{Value}
-use Rattle.ini_text.specs.Grammar.Places.{TrailingLines}
-use Rattle.ini_text.specs.Grammar.Keys.{KeyFront}
-use Rattle.ini_text.specs.Grammar.Elements.{Given}
+use Rattle.std.specs.Prelude.{◌≡◌, ℕ, true, List, [], ◌∷◌, ◌++◌, Option}
+use Rattle.ini_text.specs.Grammar.CharacterKinds.{is_blank, is_line_end}
+use Rattle.ini_text.specs.Grammar.CharacterKinds.{BeginsWithNo}
+use Rattle.ini_text.specs.Grammar.Places.{separator_text}
+use Rattle.ini_text.specs.Grammar.Elements.{Element, Given, Pair}
 use Rattle.ini_text.specs.Grammar.Texts.{Reads}
 use Rattle.ini_text.specs.declared.option.ParseOption.{ParseOption}
 
--- A pair's stretches in a text: what stands before its element; its key's source, and the separator; white
--- space before the value; the raw value; white space after it; where values are multiline, the line end and
--- the lines that add nothing to the value; and what follows the element.
+-- A pair's stretches in a text: what stands before its element; its key's source, and the separator, which a
+-- key alone lacks; white space before the value; the raw value; white space after it; a note in the same line;
+-- where values are multiline, the line end and the lines that add nothing to the value; and what follows the
+-- element.
 pub record Stretches : Type 0 where
   pub front : List ℕ
   pub key : List ℕ
-  pub separator : ℕ
+  pub separator : Option ℕ
   pub space_before : List ℕ
   pub raw_value : List ℕ
   pub space_after : List ℕ
+  pub note : List ℕ
   pub trailing_lines : List ℕ
   pub rest : List ℕ
 
 -- the element, and the text, with x in the place of the raw value
 abbrev pub pair_with : Stretches → List ℕ → List ℕ
-pair_with p x = p.key ++ p.separator ∷ (p.space_before ++ (x ++ (p.space_after ++ p.trailing_lines)))
+pair_with p x =
+    p.key ++ (separator_text p.separator
+    ++ (p.space_before ++ (x ++ (p.space_after ++ (p.note ++ p.trailing_lines)))))
 
 abbrev pub text_with : Stretches → List ℕ → List ℕ
 text_with p x = p.front ++ (pair_with p x ++ p.rest)
@@ -42,14 +43,7 @@ pub record StandsAt (o : ParseOption) (T : List ℕ) (p : Stretches) (key value 
     (before after : List Given) : Type 0 where
   pub text : T ≡ text_with p p.raw_value
   pub reads : Reads o T [] before p.front
-  pub key_front : KeyFront o p.front p.key
-      (p.separator ∷ ((p.space_before ++ (p.raw_value ++ (p.space_after ++ p.trailing_lines))) ++ p.rest)) key
-  pub some : key ≢ []
-  pub separates : is_separator p.separator ≡ true
-  pub gives : Value o (p.space_before ++ (p.raw_value ++ (p.space_after ++ p.trailing_lines))) p.rest value
-  pub white_before : list_all is_inline_white p.space_before ≡ true
-  pub white_after : list_all is_inline_white p.space_after ≡ true
-  pub is_tail : TrailingLines o p.trailing_lines p.rest
+  pub is_element : Element o p.front (pair_of p) p.rest (Pair key value ∷ [])
   pub then : Reads o T (up_to_end p) after T
 
 -- what may follow a multiline value

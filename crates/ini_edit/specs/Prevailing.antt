@@ -3,9 +3,9 @@ use Rattle.std.specs.Prelude.{◌==◌, ◌&&◌, ◌||◌, not, if◌then◌els
 use Rattle.std.specs.Prelude.{List, [], ◌∷◌, Option, None, Some}
 use Rattle.std.specs.Bool.{beq}
 use Rattle.std.specs.List.{best_of, count_by}
-use Rattle.std.specs.Option.{option_map}
+use Rattle.std.specs.Option.{option_map, unwrap_or}
 use Rattle.ini_text.specs.Grammar.CharacterKinds.{colon, equals, space, is_blank, is_line_end}
-use Rattle.ini_text.specs.Inside.PlainTests.{begins}
+use Rattle.ini_text.specs.Grammar.CharacterKinds.{begins}
 use Rattle.ini.specs.Texts.{Text}
 use Rattle.ini_edit.specs.SourceLines.{blanks_at_end, is_empty}
 use Rattle.ini_edit.specs.SourcePlaces.{is_nil}
@@ -29,7 +29,7 @@ is_form a b = a.separator == b.separator && (beq a.padded b.padded && beq a.spac
 abbrev pub form_of : (aligned : Bool) → PairPiece → Form
 form_of aligned p =
     let spaced = begins is_blank p.stretches.space_before in
-    form_with p.stretches.separator
+    form_with (unwrap_or p.stretches.separator equals)
     (if aligned then spaced else not (is_empty (blanks_at_end p.stretches.key))) spaced
 
 -- none is shown by a pair whose value gives its line nothing

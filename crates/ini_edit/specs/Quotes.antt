@@ -1,13 +1,14 @@
 -- Quotes around a value's source, and the quote in which a value is written in another one's place.
-use Rattle.std.specs.Prelude.{◌≡◌, ◌≢◌, ℕ, Bool, true, false, [], ◌∷◌, ◌++◌, ◌==◌}
+use Rattle.std.specs.Prelude.{◌≡◌, ℕ, Bool, true, false, not, ◌&&◌, if◌then◌else◌, [], ◌∷◌, ◌++◌, ◌==◌}
 use Rattle.std.specs.List.{list_any}
-use Rattle.ini_text.specs.Grammar.CharacterKinds.{is_quote_mark}
+use Rattle.ini_text.specs.Grammar.CharacterKinds.{double_quote, is_quote_mark}
 use Rattle.ini_text.specs.Grammar.Strings.{Str, quote_ends}
 use Rattle.ini_text.specs.Escaping.EscapedTexts.{escaped}
 use Rattle.ini_text.specs.Options.ReadOptions.{backslash_of}
 use Rattle.ini_text.specs.declared.option.ParseOption.{ParseOption}
 use Rattle.ini_text.specs.declared.write.policy.EscapePolicy.{EscapePolicy}
 use Rattle.ini.specs.Texts.{Text}
+use Rattle.ini_edit.specs.SourceLines.{is_empty}
 
 -- the mark stands in the text
 abbrev pub has_quote_mark : Text → ℕ → Bool
@@ -17,12 +18,11 @@ has_quote_mark text m = list_any (λ c. c == m) text
 abbrev pub written_in : EscapePolicy → Text → Text → Text
 written_in policy quote value = quote ++ (escaped policy value ++ quote)
 
--- a quote that a value may be written in: an empty one; or, where quotes are read, a mark that the value
--- doesn't have
-pub data IsQuoteFor (o : ParseOption) (value : Text) : Text → Type 0 where
-  empty : IsQuoteFor o value []
-  mark : {m : ℕ} → o.enabled_quote ≡ true → is_quote_mark m ≡ true → has_quote_mark value m ≡ false
-      → IsQuoteFor o value (m ∷ [])
+-- the quote that is tried first: double marks where an empty value would stand bare before a note
+abbrev pub quote_before : ParseOption → (note quote value : Text) → Text
+quote_before o note quote value =
+    if o.enabled_quote && (is_empty quote && (is_empty value && not (is_empty note))) then double_quote ∷ []
+    else quote
 
 -- a value's source stands in quotes: where these are read, it is one quoted part of this mark
 pub record StandsInQuotes (o : ParseOption) (raw_value : Text) (m : ℕ) : Type 0 where
@@ -40,10 +40,3 @@ pub data KeepsQuote (o : ParseOption) (raw_value value : Text) : Text → Type 0
       → KeepsQuote o raw_value value (m ∷ [])
   none : ((m : ℕ) → StandsInQuotes o raw_value m → has_quote_mark value m ≡ true)
       → KeepsQuote o raw_value value []
-
--- What stands in the place of an old value's source, once the value is set: that source, where it gives the
--- value already; else the value as the policy writes it, in the quote that it keeps.
-pub data IsPut (o : ParseOption) (policy : EscapePolicy) (raw_value old value : Text) : Text → Type 0 where
-  stays : value ≡ old → IsPut o policy raw_value old value raw_value
-  written : {quote : Text} → value ≢ old → KeepsQuote o raw_value value quote
-      → IsPut o policy raw_value old value (written_in policy quote value)

@@ -4,9 +4,10 @@ use Rattle.std.specs.Char.{is_whitespace}
 use Rattle.std.specs.List.{list_all}
 use Rattle.ini_text.specs.Grammar.CharacterKinds.{BeginsWithNo, backslash, is_inline_white}
 use Rattle.ini_text.specs.Grammar.Positions.{last_or}
-use Rattle.ini_text.specs.Laws.Plain.{IsBareKey, IsReadBack}
+use Rattle.ini_text.specs.Grammar.Strings.{noted_key_ends}
+use Rattle.ini_text.specs.Laws.Plain.{IsBareKey, IsReadBack, has_bare_note}
 use Rattle.ini_text.specs.declared.option.LoneLine.{LoneLine}
-use Rattle.ini_text.specs.declared.option.LoneLine.TheVariants.{RunsOn, Refused}
+use Rattle.ini_text.specs.declared.option.LoneLine.TheVariants.{RunsOn, Refused, Key}
 use Rattle.ini_text.specs.declared.option.ParseOption.{ParseOption}
 use Rattle.ini_text.specs.declared.write.policy.EscapePolicy.{EscapePolicy}
 use Rattle.ini.specs.Texts.{Text}
@@ -14,6 +15,8 @@ use Rattle.ini.specs.Texts.{Text}
 -- a key that can be written in any pair's place: it is plain, and no spaces stand before it
 pub record IsPlainBareKey (o : ParseOption) (policy : EscapePolicy) (key : Text) : Type 0 where
   pub bare : IsBareKey o policy key
+  -- where keys end before notes, it has no bare note
+  pub no_note : (noted_key_ends o).notes ≡ true → has_bare_note policy key ≡ false
   -- its characters are read back
   pub read_back : IsReadBack o policy key
 
@@ -22,6 +25,7 @@ pub record IsPlainBareKey (o : ParseOption) (policy : EscapePolicy) (key : Text)
 abbrev pub is_key_white : LoneLine → ℕ → Bool
 is_key_white RunsOn c = is_whitespace c
 is_key_white Refused c = is_inline_white c
+is_key_white Key c = is_inline_white c
 
 -- A key's source is white space before the key, what is written of the key itself, and white space after
 -- it.

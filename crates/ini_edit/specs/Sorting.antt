@@ -17,7 +17,7 @@ use Rattle.ini.specs.Documents.{Document}
 use Rattle.ini.specs.Loading.{IsStopOf}
 use Rattle.ini.specs.Properties.{Pairs}
 use Rattle.ini.specs.Texts.{Text, is_name, is_text}
-use Rattle.ini_edit.specs.SourceEntries.{comments_in}
+use Rattle.ini_edit.specs.SourceEntries.{behind_value, comments_in}
 use Rattle.ini_edit.specs.SourceLines.{after_line}
 use Rattle.ini_edit.specs.SourcePlaces.{is_nil, last_before_gap, last_gap}
 use Rattle.ini_edit.specs.Sources.{PairPiece, Pieces, SectionPiece, document_in, joined, section_text}
@@ -127,7 +127,7 @@ pair_said u = record {
   above = comments_in u.above;
   key = u.pair.key;
   value = u.pair.value;
-  rest = comments_in u.rest;
+  rest = comments_in (behind_value u.pair.stretches u.rest);
 }
 
 abbrev pub section_said : SectionUnit → SectionSaid

@@ -1,15 +1,16 @@
 -- Edits of a text in pieces: which piece becomes which. All else stays.
-use Rattle.std.specs.Prelude.{◌≡◌, Bool, true, false, if◌then◌else◌, List, [], ◌∷◌, ◌++◌, Option, None, Some}
-use Rattle.std.specs.Prelude.{option_and_then}
+use Rattle.std.specs.Prelude.{◌≡◌, Bool, true, false, not, ◌&&◌, if◌then◌else◌, List, [], ◌∷◌, ◌++◌}
+use Rattle.std.specs.Prelude.{Option, None, Some, option_and_then}
 use Rattle.ini_text.specs.Escaping.EscapedTexts.{escaped}
+use Rattle.ini_text.specs.Grammar.CharacterKinds.{begins, is_comment_mark, space}
 use Rattle.ini_text.specs.declared.option.ParseOption.{ParseOption}
 use Rattle.ini_text.specs.declared.write.policy.EscapePolicy.{EscapePolicy}
 use Rattle.ini.specs.Documents.{first_section, value_in}
-use Rattle.ini.specs.Edits.{rename_key_in, replace_in, section_renamed}
+use Rattle.ini.specs.Edits.{rename_key_in, section_renamed}
 use Rattle.ini.specs.Texts.{Text, is_name, is_text}
-use Rattle.ini_edit.specs.Quotes.{IsPut}
 use Rattle.ini_edit.specs.Renamed.{HasEdges}
 use Rattle.ini_edit.specs.Sections.{header_of}
+use Rattle.ini_edit.specs.SourceLines.{blanks_at_end, is_empty}
 use Rattle.ini_edit.specs.Sources.{PairPiece, Pieces, SectionPiece, document_in}
 
 -- the first of a list that fits, and the list with that changed
@@ -40,6 +41,17 @@ abbrev pub pair_changed : Option Text → Text → (PairPiece → PairPiece) →
     → List SectionPiece
 pair_changed name key f ss = first_changed (λ s. is_name name s.name) (key_changed key f) ss
 
+-- What becomes of a pair's note once the value is written so: an empty bare value can't stand before one, so
+-- the note goes with the old value.
+abbrev pub note_beside : (source : Text) → PairPiece → Text
+note_beside source p = if is_empty source then [] else p.stretches.note
+
+-- and of the white space before it: a note needs a blank there
+abbrev pub space_beside : (source : Text) → PairPiece → Text
+space_beside source p =
+    if is_empty p.stretches.space_after && not (is_empty (note_beside source p)) then space ∷ []
+    else p.stretches.space_after
+
 -- a pair with another value, which is written so
 abbrev pub with_value : (source value : Text) → PairPiece → PairPiece
 with_value source value p = record {
@@ -48,33 +60,14 @@ with_value source value p = record {
     separator = p.stretches.separator;
     space_before = p.stretches.space_before;
     raw_value = source;
-    space_after = p.stretches.space_after;
+    space_after = space_beside source p;
+    note = note_beside source p;
     trailing_lines = p.stretches.trailing_lines;
   };
   key = p.key;
   value = value;
   after = p.after;
 }
-
--- The first pair of the key in the first section of the name has the value: a value that it had stays as it
--- is written, and another one is written by the policy, in the old one's quotes where it can be. So the
--- document is the one with that value replaced.
-pub record IsValueSet (o : ParseOption) (policy : EscapePolicy) (old new : Pieces) (name : Option Text)
-    (key value : Text) : Type 0 where
-  pub pair : PairPiece
-  pub was : pair_in name key old.sections ≡ Some pair
-  pub source : Text
-  pub is_put : IsPut o policy pair.stretches.raw_value pair.value value source
-  pub option : new.option ≡ old.option
-  pub sections : new.sections ≡ pair_changed name key (with_value source value) old.sections
-  pub document : document_in new ≡ replace_in name key value (document_in old)
-
--- it has, or there is no such pair, and all stays
-abbrev pub SetsValueIn : ParseOption → EscapePolicy → Pieces → Pieces → Option Text → Text → Text → Bool
-    → Type 0
-SetsValueIn o policy old new name key value true = IsValueSet o policy old new name key value
-SetsValueIn o policy old new name key value false =
-    (new ≡ old) × (value_in name key (document_in old) ≡ None)
 
 -- a pair with another key, which is written so
 abbrev pub with_key : (source key : Text) → PairPiece → PairPiece
@@ -85,6 +78,7 @@ with_key source key p = record {
     space_before = p.stretches.space_before;
     raw_value = p.stretches.raw_value;
     space_after = p.stretches.space_after;
+    note = p.stretches.note;
     trailing_lines = p.stretches.trailing_lines;
   };
   key = key;
@@ -113,10 +107,18 @@ RenamesKeyIn o policy old new name key other true = IsKeyRenamed o policy old ne
 RenamesKeyIn o policy old new name key other false =
     (new ≡ old) × (value_in name key (document_in old) ≡ None)
 
--- a section with another name, which stands in such a header
+-- the blanks that end a header, where a note follows them
+abbrev pub blanks_before_note : SectionPiece → Text
+blanks_before_note s = if begins is_comment_mark s.after then blanks_at_end s.header else []
+
+-- a section with another name, which stands in such a header; a note behind that keeps its blanks
 abbrev pub with_header : (header name : Text) → SectionPiece → SectionPiece
-with_header header name s =
-    record { name = Some name; header = header; after = s.after; pairs = s.pairs }
+with_header header name s = record {
+  name = Some name;
+  header = header ++ blanks_before_note s;
+  after = s.after;
+  pairs = s.pairs;
+}
 
 -- The first section of the name has another name, which stands in its header as the policy writes it.
 pub record IsNameRenamed (policy : EscapePolicy) (old new : Pieces) (name other : Text) : Type 0 where

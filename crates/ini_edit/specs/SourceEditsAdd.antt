@@ -5,35 +5,44 @@ use Rattle.std.specs.Option.{option_map}
 use Rattle.std.specs.Option.{option_or}
 use Rattle.ini_text.specs.Grammar.CharacterKinds.{backslash, carriage_return, is_blank, is_comment_mark}
 use Rattle.ini_text.specs.Grammar.CharacterKinds.{is_line_end, line_feed, space}
+use Rattle.ini_text.specs.Grammar.Elements.{may_have_note}
 use Rattle.ini_text.specs.Grammar.Positions.{is_column_one, last_or}
-use Rattle.ini_text.specs.Inside.PlainTests.{begins}
+use Rattle.ini_text.specs.Grammar.CharacterKinds.{begins}
 use Rattle.ini_text.specs.Parsing.Fronts.{front_of}
 use Rattle.ini_text.specs.declared.option.ParseOption.{ParseOption}
 use Rattle.ini.specs.Texts.{Text}
 use Rattle.ini_edit.specs.Endings.{Ending, ending}
 use Rattle.ini_edit.specs.SourceEdits.{with_pairs}
-use Rattle.ini_edit.specs.SourceEditsDelete.{gap_after, line_end_after, lines_after, own_lines}
+use Rattle.ini_edit.specs.SourceEditsDelete.{empty_comment, gap_after, line_end_after, lines_after}
+use Rattle.ini_edit.specs.SourceEditsDelete.{own_lines, would_be_taken}
 use Rattle.ini_edit.specs.SourceLines.{after_blank_lines, after_comments, after_line, after_line_end}
 use Rattle.ini_edit.specs.SourceLines.{blanks_at_end, comments_at_end, has_lone_return, is_empty}
 use Rattle.ini_edit.specs.SourceLines.{line_end_at_end}
 use Rattle.ini_edit.specs.SourcePlaces.{Place, exchanged, gap_of, gap_put, is_nil, last_before_gap}
-use Rattle.ini_edit.specs.SourcePlaces.{last_place}
-use Rattle.ini_edit.specs.SourcePlaces.{with_after, with_end, with_raw_value}
-use Rattle.ini_edit.specs.Sources.{PairPiece, SectionPiece}
+use Rattle.ini_edit.specs.SourcePlaces.{last_place, last_word, with_after, with_end, with_last_word}
+use Rattle.ini_edit.specs.Sources.{PairPiece, SectionPiece, is_multiline}
 
 abbrev pub is_escape : Ending → Bool
 is_escape Ending.inside = false
 is_escape Ending.escape = true
 is_escape Ending.line = false
 
+-- a note may stand behind a lone CR
+abbrev pub notes_behind_return : ParseOption → Bool
+notes_behind_return o = may_have_note o (carriage_return ∷ [])
+
 module _ (o : ParseOption) where
-  -- The value with its last backslash made one that stands for itself, where that would take what follows.
-  abbrev pub closed_value : PairPiece → Text
-  closed_value p =
-      if is_empty p.stretches.trailing_lines && (is_empty p.after
-      && is_escape (ending o p.stretches.raw_value))
-      then p.stretches.raw_value ++ (if o.enabled_escape then backslash else space) ∷ []
-      else p.stretches.raw_value
+  -- A pair's value, or a key alone, with its last backslash made one that stands for itself, where that
+  -- would take what follows.
+  abbrev pub closed_word : PairPiece → Text
+  closed_word p =
+      if is_empty p.stretches.note && (is_empty p.stretches.trailing_lines
+      && (is_empty p.after && is_escape (ending o (last_word p))))
+      then last_word p ++ (if o.enabled_escape then backslash else space) ∷ []
+      else last_word p
+
+  abbrev pub closed : PairPiece → PairPiece
+  closed p = with_last_word (closed_word p) p
 
   -- a pair's own lines with a line end, and the pair with these and nothing after them
   abbrev pub ended_lines : (line_end : Text) → PairPiece → Text
@@ -41,15 +50,14 @@ module _ (o : ParseOption) where
 
   abbrev pub with_line_ended : (line_end : Text) → PairPiece → PairPiece
   with_line_ended end p =
-      if o.enabled_indented_mutiline_value
-      then with_end (ended_lines end p) [] (with_raw_value (closed_value p) p)
-      else with_end [] (ended_lines end p) (with_raw_value (closed_value p) p)
+      if is_multiline o p then with_end (ended_lines end p) [] (closed p)
+      else with_end [] (ended_lines end p) (closed p)
 
-  -- The line end of a new pair after this one. With indented comments it is CR alone after a line that ends
-  -- so: a comment behind CR goes up to its line's end, and one in column one through the next LF.
+  -- The line end of a new pair after this one. Where notes may stand behind CR, it is CR alone after a line
+  -- that ends so: a note goes up to its line's end, and a comment in column one through the next LF.
   abbrev pub end_after : (line_end : Text) → PairPiece → Text
   end_after end p =
-      if o.enabled_indented_comment && last_or line_feed (line_end_after o p) == carriage_return
+      if notes_behind_return o && last_or line_feed (line_end_after o p) == carriage_return
       then carriage_return ∷ [] else end
 
 -- a multiline value directly before the pair would take it
@@ -150,13 +158,18 @@ first_place o is_general is_last gap =
     else Some wanted
 
 module _ (o : ParseOption) (line_end : Text) (make : Maker) where
-  -- A new pair directly after the one at the place: before the blank lines and the gap that followed that.
-  -- Where values are multiline it isn't indented.
+  -- A new pair directly after this one, which these follow: before the blank lines and the gap that followed
+  -- that. Where values are multiline it isn't indented, and an empty comment keeps what follows a key alone
+  -- apart from its value.
+  abbrev pub made_after : PairPiece → List PairPiece → PairPiece
+  made_after p ps =
+      if would_be_taken o p ps then make false line_end (empty_comment line_end ++ gap_after o p)
+      else make (not o.enabled_indented_mutiline_value) (end_after o line_end p ++ lines_after o p)
+      (gap_after o p)
+
   abbrev pub pair_put_after : SectionPiece → Place PairPiece → SectionPiece
   pair_put_after s p =
-      let pair = make (not o.enabled_indented_mutiline_value) (end_after o line_end p.here
-      ++ lines_after o p.here) (gap_after o p.here)
-      in with_pairs s (exchanged p (with_line_ended o line_end p.here ∷ pair ∷ []))
+      with_pairs s (exchanged p (with_line_ended o line_end p.here ∷ made_after p.here p.after ∷ []))
 
   -- a new pair at this place of a section without pairs
   abbrev pub pair_put_first : SectionPiece → GapPlace → SectionPiece

@@ -7,10 +7,9 @@ use Rattle.ini.specs.Texts.{Text}
 use Rattle.ini_text.specs.declared.option.ParseOption.{ParseOption}
 use Rattle.ini_text.specs.declared.write.option.WriteOption.{WriteOption}
 use Rattle.ini_text.specs.declared.write.policy.EscapePolicy.{EscapePolicy}
-use Rattle.ini_edit.specs.SourceEdits.{with_value}
 use Rattle.ini_edit.specs.SourceEditsAdded.{added_at}
 use Rattle.ini_edit.specs.SourceEditsDelete.{deleted_at}
-use Rattle.ini_edit.specs.SourceEditsSet.{pair_changed_at}
+use Rattle.ini_edit.specs.SourceEditsSet.{pair_changed_at, with_value_before}
 use Rattle.ini_edit.specs.SourcePlaces.{PairPlace, Place, edited_at, one_on}
 use Rattle.ini_edit.specs.SourceWritten.{IsFirstReadAs, IsWritableNew, IsWrittenInPlace, RefusesNew}
 use Rattle.ini_edit.specs.SourceWritten.{value_forms}
@@ -46,10 +45,10 @@ pub record IsSetAtIndex (o : ParseOption) (policy : EscapePolicy) (old new : Pie
   pub place : PairPlace
   pub was : indexed_pair section pair old.sections ≡ Some place
   pub source : Text
-  pub is_written : IsWrittenInPlace o policy place.pair.here.stretches.raw_value place.pair.here.value value
-      source
+  pub is_written : IsWrittenInPlace o policy place.pair.here.stretches.raw_value
+      place.pair.here.stretches.note place.pair.here.value value source
   pub option : new.option ≡ old.option
-  pub sections : new.sections ≡ pair_changed_at (with_value source value) place
+  pub sections : new.sections ≡ pair_changed_at (with_value_before o source value place.pair.after) place
   pub document : document_in new
       ≡ at_section section (at_index pair (λ p. (p.0, value))) (document_in old)
 

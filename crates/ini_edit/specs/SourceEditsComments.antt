@@ -62,12 +62,9 @@ module _ (o : ParseOption) where
       if is_empty comment && (is_empty kept && (not (is_nil p.before) && would_go_on o p.here)) then None
       else Some (rest_put o glue (lines_of_comment line_end comment) bare bare.pairs (p.here ∷ p.after))
 
-  -- the lines of a pair up to its line end
+  -- the lines of a pair up to its line end; a note behind a key alone is among them
   abbrev pub pair_lines : PairPiece → Text
-  pair_lines p =
-      let own = if o.enabled_indented_mutiline_value then front_of (own_lines o p)
-      (line_end_after o p) else [] in
-      pair_line p.stretches ++ own
+  pair_lines p = pair_line p.stretches ++ front_of (own_lines o p) (line_end_after o p)
 
   -- The pair at the place made a comment. None may stand there where the pair isn't in column one, or a CR
   -- alone ends its lines.
@@ -125,6 +122,6 @@ CommentsOut o old new name key false = (new ≡ old) × (pair_place name key 0 o
 
 pub data RefusesToCommentOut (o : ParseOption) (ss : List SectionPiece) (name : Option Text) (key : Text)
     : EditError → Type 0 where
-  no_place_out : {at : PairPlace} → pair_place name key 0 ss ≡ Some at → in_section (pair_commented_out o) at ≡ None
-      → RefusesToCommentOut o ss name key NoPlace
+  no_place_out : {at : PairPlace} → pair_place name key 0 ss ≡ Some at
+      → in_section (pair_commented_out o) at ≡ None → RefusesToCommentOut o ss name key NoPlace
   no_memory_out : RefusesToCommentOut o ss name key (TextError (Memory alloc_error))

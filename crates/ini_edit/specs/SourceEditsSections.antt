@@ -5,21 +5,21 @@ use Rattle.std.specs.Option.{option_map}
 use Rattle.ini_text.specs.Grammar.CharacterKinds.{is_blank, is_comment_mark, is_line_end, is_line_feed}
 use Rattle.ini_text.specs.Grammar.CharacterKinds.{line_feed}
 use Rattle.ini_text.specs.Grammar.Positions.{is_column_one, last_or}
-use Rattle.ini_text.specs.Inside.PlainTests.{begins}
+use Rattle.ini_text.specs.Grammar.CharacterKinds.{begins}
 use Rattle.ini_text.specs.Parsing.Fronts.{front_of}
 use Rattle.ini_text.specs.declared.option.ParseOption.{ParseOption}
 use Rattle.ini_text.specs.declared.write.policy.EscapePolicy.{EscapePolicy}
 use Rattle.ini.specs.Texts.{Text}
 use Rattle.ini_edit.specs.Sections.{header_of}
 use Rattle.ini_edit.specs.SourceEdits.{with_pairs}
-use Rattle.ini_edit.specs.SourceEditsAdd.{Maker, closed_value}
+use Rattle.ini_edit.specs.SourceEditsAdd.{Maker, closed}
 use Rattle.ini_edit.specs.SourceEditsDelete.{line_end_after, lines_after, rest_put}
 use Rattle.ini_edit.specs.SourceLines.{comments_at_end, dropped_key, from_last_solid, indentation_at_end}
 use Rattle.ini_edit.specs.SourceLines.{is_empty}
 use Rattle.ini_edit.specs.SourceLines.{is_one_line_end, line_end_at_end}
 use Rattle.ini_edit.specs.SourcePlaces.{Place, edited_at, gap_put, is_nil, last_before_gap}
 use Rattle.ini_edit.specs.SourcePlaces.{last_before_section}
-use Rattle.ini_edit.specs.SourcePlaces.{last_changed, last_gap, last_place, section_place, with_raw_value}
+use Rattle.ini_edit.specs.SourcePlaces.{last_changed, last_gap, last_place, section_place}
 use Rattle.ini_edit.specs.Sources.{PairPiece, SectionPiece, section_text}
 
 -- the comments directly above the header that follows a gap, and what indents this
@@ -102,10 +102,10 @@ module _ (o : ParseOption) where
       let glue = if is_ended_for text before s then [] else line_end in
       glue ++ (if ends_empty (text ++ glue) then [] else line_end)
 
-  -- a section whose last pair's value has its last backslash made one that stands for itself
+  -- a section whose last pair has its last backslash made one that stands for itself
   abbrev pub with_last_closed : (closes : Bool) → SectionPiece → SectionPiece
   with_last_closed closes s =
-      if closes then with_pairs s (last_changed (λ p. with_raw_value (closed_value o p) p) s.pairs) else s
+      if closes then with_pairs s (last_changed (closed o) s.pairs) else s
 
   -- The last section up to where a new one goes: its line ended, and an empty line. Before a text that is
   -- all of the general section stands nothing.

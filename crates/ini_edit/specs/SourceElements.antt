@@ -1,7 +1,7 @@
 -- The elements of a text in pieces in order, each with its section and where it begins.
 use Rattle.std.specs.Prelude.{Bool, ℕ, ◌-◌, ◌^◌, filter, map, min, not, List, [], ◌∷◌, ◌++◌, Option}
 use Rattle.std.specs.Option.{option_map}
-use Rattle.ini_text.specs.Grammar.Places.{Stretches, pair_source}
+use Rattle.ini_text.specs.Grammar.Places.{Stretches, pair_source, separator_text}
 use Rattle.ini_text.specs.Grammar.Positions.{column_of, line_of}
 use Rattle.ini.specs.Texts.{Text, str_name, str_text}
 use Rattle.ini_edit.specs.SourceLines.{is_empty}
@@ -68,7 +68,7 @@ elements_in pieces = filter has_characters (placed_contents [] (sections_content
 
 -- the text of a pair up to its value
 abbrev pub up_to_value : Stretches → Text
-up_to_value p = p.key ++ (p.separator ∷ p.space_before)
+up_to_value p = p.key ++ (separator_text p.separator ++ p.space_before)
 
 -- the text up to the value of a pair, and where that begins, of the first pair of a key
 abbrev pub text_before_value : PairPlace → Text

@@ -1,7 +1,9 @@
 -- What a text in pieces says, however it is laid out: its headers and pairs, and the comments after each.
-use Rattle.std.specs.Prelude.{◌==◌, ◌&&◌, ◌||◌, if◌then◌else◌, Bool, true, false, List, [], ◌∷◌, map, Option}
+use Rattle.std.specs.Prelude.{◌==◌, ◌&&◌, ◌||◌, if◌then◌else◌, Bool, true, false, List, [], ◌∷◌, ◌++◌}
+use Rattle.std.specs.Prelude.{map, Option}
 use Rattle.ini_text.specs.Grammar.CharacterKinds.{carriage_return, line_feed, is_comment_mark, is_line_feed}
-use Rattle.ini_text.specs.Inside.PlainTests.{begins}
+use Rattle.ini_text.specs.Grammar.CharacterKinds.{begins}
+use Rattle.ini_text.specs.Grammar.Places.{Stretches}
 use Rattle.ini.specs.Texts.{Text}
 use Rattle.ini_edit.specs.SourceLines.{is_empty}
 use Rattle.ini_edit.specs.Sources.{PairPiece, Pieces, SectionPiece}
@@ -20,7 +22,11 @@ comments_from false (c ∷ cs) =
 abbrev pub comments_in : Text → Text
 comments_in gap = comments_from false gap
 
--- a pair and the comments after it; a section, the comments after its header, and its pairs
+-- what stands behind a pair's value and the white space after that, before such a rest: a note, and lines
+abbrev pub behind_value : Stretches → (rest : Text) → Text
+behind_value p rest = p.note ++ (p.trailing_lines ++ rest)
+
+-- a pair and the comments behind its value; a section, the comments after its header, and its pairs
 pub record PairEntry : Type 0 where
   pub key : Text
   pub value : Text
@@ -32,7 +38,8 @@ pub record SectionEntry : Type 0 where
   pub pairs : List PairEntry
 
 abbrev pub pair_entry : PairPiece → PairEntry
-pair_entry p = record { key = p.key; value = p.value; comments = comments_in p.after }
+pair_entry p =
+    record { key = p.key; value = p.value; comments = comments_in (behind_value p.stretches p.after) }
 
 abbrev pub section_entry : SectionPiece → SectionEntry
 section_entry s = record {

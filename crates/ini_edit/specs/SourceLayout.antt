@@ -3,10 +3,13 @@
 use Rattle.std.specs.Prelude.{◌==◌, ◌&&◌, ◌||◌, ◌-◌, not, if◌then◌else◌, ℕ, zero, suc, max, nat_le}
 use Rattle.std.specs.Prelude.{Bool, true, false, List, [], ◌∷◌, ◌++◌, Option, None, Some, is_none, length}
 use Rattle.std.specs.Prelude.{replicate}
+use Rattle.std.specs.Option.{option_map}
 use Rattle.ini_text.specs.Grammar.CharacterKinds.{carriage_return, line_feed, open_bracket, space}
 use Rattle.ini_text.specs.Grammar.CharacterKinds.{is_blank, is_comment_mark, is_line_feed}
+use Rattle.ini_text.specs.Grammar.Places.{Stretches}
 use Rattle.ini_text.specs.Grammar.Positions.{last_or}
-use Rattle.ini_text.specs.Inside.PlainTests.{begins}
+use Rattle.ini_text.specs.Grammar.CharacterKinds.{begins}
+use Rattle.ini_text.specs.Inside.LineReader.{past_note}
 use Rattle.ini_text.specs.Options.Backslashes.{begins_escape}
 use Rattle.ini_text.specs.Options.ReadOptions.{backslash_of}
 use Rattle.ini_text.specs.Options.WriteOptions.{line_end}
@@ -17,10 +20,12 @@ use Rattle.ini.specs.Texts.{Text, is_text, str_text}
 use Rattle.ini_edit.specs.NewLines.{line_end_of}
 use Rattle.ini_edit.specs.Prevailing.{leaves_line_empty, prevailing_style}
 use Rattle.ini_edit.specs.SourceEditsSections.{rest_before_header}
+use Rattle.ini_edit.specs.SourceEntries.{behind_value}
 use Rattle.ini_edit.specs.SourceLines.{after_blank_lines, after_blanks, blanks_at_end, is_empty}
 use Rattle.ini_edit.specs.SourcePlaces.{is_nil, last_before_gap, last_gap}
 use Rattle.ini_edit.specs.SourceWritten.{Style, option_style}
-use Rattle.ini_edit.specs.Sources.{PairPiece, Pieces, SectionPiece, pair_text, section_text, sections_text}
+use Rattle.ini_edit.specs.Sources.{PairPiece, Pieces, SectionPiece, has_separator, pair_text, section_text}
+use Rattle.ini_edit.specs.Sources.{sections_text}
 use Rattle.ini_edit.specs.declared.source.layout.Layout.{Layout}
 use Rattle.ini_edit.specs.declared.source.layout.Separators.{Separators}
 use Rattle.ini_edit.specs.declared.source.layout.Separators.TheVariants.{Given, Kept, Prevailing}
@@ -28,8 +33,8 @@ use Rattle.ini_edit.specs.declared.source.layout.lines.Follower.{Follower}
 use Rattle.ini_edit.specs.declared.source.layout.lines.Follower.TheVariants.{AsItIs, Header, End}
 
 -- the rules of a layout for one text: how separators are written, or none where each stays; how many spaces
--- indent a pair, or none where each stays; the most blank lines; whether separators are aligned; and the line
--- end
+-- indent a pair, or none where each stays; the most blank lines; whether separators are aligned; and the
+-- line end
 pub record Rules : Type 0 where
   pub option : ParseOption
   pub style : Option Style
@@ -72,6 +77,15 @@ abbrev pub separator_for : Option Style → ℕ → ℕ
 separator_for None separator = separator
 separator_for (Some style) separator = style.separator
 
+abbrev pub without_pad : Style → Style
+without_pad s = record s { pad = [] }
+
+-- a key alone has no blanks after it, where separators are laid out; but those before a note stay
+abbrev pub style_of_key : PairPiece → Option Style → Option Style
+style_of_key p style =
+    if has_separator p then style
+    else (if begins is_comment_mark p.after then None else option_map without_pad style)
+
 abbrev pub space_for : Option Style → Text → Text
 space_for None before = before
 space_for (Some style) before = style.space_before
@@ -83,14 +97,14 @@ laid_space style raw_value before =
 
 -- what stands after a pair's value, up to this rest
 abbrev pub lines_of : PairPiece → (rest : Text) → Text
-lines_of p rest = p.stretches.space_after ++ (p.stretches.trailing_lines ++ front_of p.after rest)
+lines_of p rest = p.stretches.space_after ++ behind_value p.stretches (front_of p.after rest)
 
 -- lines after a header; those at the text's front begin with no blank line
 abbrev pub first_lines : SectionPiece → (lines : Text) → Text
 first_lines s lines = if is_none s.name then after_blank_lines lines else lines
 
--- The comments directly above the header that follows a section, and what indents that; none follows the last
--- one. Before the section stands this character.
+-- The comments directly above the header that follows a section, and what indents that; none follows the
+-- last one. Before the section stands this character.
 abbrev pub above_next : (is_last : Bool) (front : ℕ) → SectionPiece → Text
 above_next is_last front s =
     if is_last then [] else rest_before_header (last_before_gap front s s.pairs) (last_gap s)
@@ -112,8 +126,8 @@ module _ (r : Rules) where
   white_before End ends blanks = []
 
   -- A gap laid out, line by line. What is neither a blank nor a line end stays, up to its line's end: a
-  -- comment to the character. Before it stand the line ends up to there, as many as may, and the blanks after
-  -- the last.
+  -- comment to the character. Before it stand the line ends up to there, as many as may, and the blanks
+  -- after the last.
   abbrev pub laid_lines : Follower → (inside : Bool) (ends : ℕ) (blanks : Text) → Text → Text
   laid_lines follower inside ends blanks [] = white_before follower ends blanks
   laid_lines follower inside ends blanks (c ∷ cs) =
@@ -137,28 +151,39 @@ module _ (r : Rules) where
   indent_for None starts indent own = indent
   indent_for (Some n) starts indent own = if indents starts n own then replicate n space else indent
 
-  abbrev pub laid_key : (starts : Bool) → Text → Text
-  laid_key starts key =
+  abbrev pub laid_key : (starts : Bool) → PairPiece → Text
+  laid_key starts p =
+      let key = p.stretches.key in
       let own = after_blanks key in
       let bare = front_of own (blanks_at_end own) in
       indent_for r.indentation starts (front_of key own) own
-      ++ (bare ++ pad_for r.option r.style bare (blanks_at_end own))
+      ++ (bare ++ pad_for r.option (style_of_key p r.style) bare (blanks_at_end own))
 
   -- a pair up to the end of its value, its separator in this column at least
+  abbrev pub laid_value : (column : ℕ) (key : Text) → Option ℕ → Stretches → Text
+  laid_value column key None p = key
+  laid_value column key (Some separator) p =
+      aligned_key column key ++ separator_for r.style separator
+      ∷ (laid_space r.style p.raw_value p.space_before ++ p.raw_value)
+
   abbrev pub laid_pair : (starts : Bool) (column : ℕ) → PairPiece → Text
   laid_pair starts column p =
-      aligned_key column (laid_key starts p.stretches.key) ++ separator_for r.style p.stretches.separator
-      ∷ (laid_space r.style p.stretches.raw_value p.stretches.space_before ++ p.stretches.raw_value)
+      laid_value column (laid_key starts p) p.stretches.separator p.stretches
 
-  -- between a pair and the next one stands nothing but a line end, once it is laid out
+  -- between a pair, with its note, and the next one stands nothing but a line end, once it is laid out
   abbrev pub joins : PairPiece → Bool
-  joins p = is_text (laid_gap AsItIs (lines_of p [])) r.line_end
+  joins p =
+      is_text (laid_gap AsItIs (past_note r.option (after_blanks (lines_of p [])))) r.line_end
+
+  -- how wide the key is before a separator
+  abbrev pub key_width : PairPiece → ℕ
+  key_width p = if has_separator p then length (laid_key true p) else 0
 
   -- the column of the farthest separator of the pairs that are joined from here on
   abbrev pub run_column : List PairPiece → ℕ
   run_column [] = 0
   run_column (p ∷ ps) =
-      max (length (laid_key true p.stretches.key)) (if joins p then run_column ps else 0)
+      max (key_width p) (if joins p then run_column ps else 0)
 
   -- The column of the first of pairs: none is aligned that begins no line; the column is the one before it,
   -- where that is joined to it.

@@ -8,7 +8,7 @@ use Rattle.std.specs.Option.{option_or}
 use Rattle.ini_text.specs.Grammar.CharacterKinds.{carriage_return, is_blank, is_comment_mark, is_line_end}
 use Rattle.ini_text.specs.Grammar.CharacterKinds.{is_inline_white, is_line_feed}
 use Rattle.ini_text.specs.Grammar.Keys.{begins_note}
-use Rattle.ini_text.specs.Inside.PlainTests.{begins}
+use Rattle.ini_text.specs.Grammar.CharacterKinds.{begins}
 use Rattle.ini_text.specs.Options.Backslashes.{begins_escape}
 use Rattle.ini_text.specs.Options.ReadOptions.{backslash_of}
 use Rattle.ini_text.specs.declared.option.ParseOption.{ParseOption}
@@ -97,18 +97,22 @@ abbrev pub ends_line : ℕ → Text → Bool
 ends_line c cs = is_line_feed c || (c == carriage_return && not (begins is_line_feed cs))
 
 -- where a walk over the lines after a value stands: where a line starts, in the white space that begins it,
--- further within it, after a backslash that takes what follows, or in a note
+-- further within it, there behind a raw blank, after a backslash that takes what follows, or in a note
 pub data LinePlace : Type 0 where
   line : LinePlace
   lead : LinePlace
   within : LinePlace
+  space : LinePlace
   escape : LinePlace
   note : LinePlace
 
 abbrev pub next_within : ParseOption → ℕ → LinePlace
-next_within o c = if begins_escape (backslash_of o) c then LinePlace.escape else LinePlace.within
+next_within o c =
+    if begins_escape (backslash_of o) c then LinePlace.escape
+    else (if is_blank c then LinePlace.space else LinePlace.within)
 
--- the place one character on: CR alone ends a line too, and a backslash in a note takes nothing
+-- the place one character on: CR alone ends a line too, and a backslash in a note takes nothing; with inline
+-- comments a mark behind a raw blank begins a note, but not behind the white space that begins a line
 abbrev pub next_place : ParseOption → LinePlace → ℕ → Text → LinePlace
 next_place o LinePlace.line c cs =
     if ends_line c cs then LinePlace.line else (if is_blank c then LinePlace.lead else next_within o c)
@@ -117,6 +121,9 @@ next_place o LinePlace.lead c cs =
     else (if is_inline_white c then LinePlace.lead
     else (if begins_note o c then LinePlace.note else next_within o c))
 next_place o LinePlace.within c cs = if ends_line c cs then LinePlace.line else next_within o c
+next_place o LinePlace.space c cs =
+    if ends_line c cs then LinePlace.line
+    else (if o.enabled_inline_comment && is_comment_mark c then LinePlace.note else next_within o c)
 next_place o LinePlace.escape c cs = LinePlace.within
 next_place o LinePlace.note c cs =
     if ends_line c cs then LinePlace.line else (if is_line_end c then LinePlace.within else LinePlace.note)
@@ -125,6 +132,7 @@ abbrev pub is_line : LinePlace → Bool
 is_line LinePlace.line = true
 is_line LinePlace.lead = false
 is_line LinePlace.within = false
+is_line LinePlace.space = false
 is_line LinePlace.escape = false
 is_line LinePlace.note = false
 
@@ -134,6 +142,7 @@ abbrev pub stays_quiet : ParseOption → LinePlace → ℕ → Bool
 stays_quiet o LinePlace.line c = is_blank_or_line_end c
 stays_quiet o LinePlace.lead c = is_blank_or_line_end c || begins_note o c
 stays_quiet o LinePlace.within c = is_line_end c
+stays_quiet o LinePlace.space c = false
 stays_quiet o LinePlace.escape c = false
 stays_quiet o LinePlace.note c = true
 
@@ -197,8 +206,8 @@ dropped_key_from o state before (c ∷ cs) =
 abbrev pub dropped_key : ParseOption → (before : ℕ) → Text → Text
 dropped_key o before text = dropped_key_from o CommentState.outside before text
 
--- after this character that one begins a comment in column one, or is white space that is neither blank nor a
--- line end
+-- after this character that one begins a comment in column one, or is white space that is neither blank nor
+-- a line end
 abbrev pub begins_solid : (before c : ℕ) → Bool
 begins_solid before c = not (is_blank_or_line_end c || (is_comment_mark c && not (is_line_feed before)))
 

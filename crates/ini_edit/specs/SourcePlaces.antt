@@ -6,7 +6,7 @@ use Rattle.ini_text.specs.Grammar.CharacterKinds.{line_feed}
 use Rattle.ini_text.specs.Grammar.Positions.{last_or}
 use Rattle.ini.specs.Texts.{Text, is_name, is_text}
 use Rattle.ini_text.specs.Parsing.Fronts.{front_of}
-use Rattle.ini_edit.specs.Sources.{PairPiece, SectionPiece, pairs_text, sections_text}
+use Rattle.ini_edit.specs.Sources.{PairPiece, SectionPiece, has_separator, pairs_text, sections_text}
 use Rattle.ini_edit.specs.SourceEdits.{with_pairs}
 
 -- one of a list, those before it, and those after it
@@ -85,6 +85,17 @@ section_exchanged p s = exchanged p.section (s ∷ [])
 -- a pair with another source of its value, with other lines after its value, and another gap
 abbrev pub with_raw_value : Text → PairPiece → PairPiece
 with_raw_value source p = record p { stretches = record p.stretches { raw_value = source } }
+
+-- the same of its key
+abbrev pub with_raw_key : Text → PairPiece → PairPiece
+with_raw_key source p = record p { stretches = record p.stretches { key = source } }
+
+-- what a pair's own line ends with: the source of its value, or of a key alone
+abbrev pub last_word : PairPiece → Text
+last_word p = if has_separator p then p.stretches.raw_value else p.stretches.key
+
+abbrev pub with_last_word : Text → PairPiece → PairPiece
+with_last_word source p = if has_separator p then with_raw_value source p else with_raw_key source p
 
 abbrev pub with_end : (lines gap : Text) → PairPiece → PairPiece
 with_end lines gap p = record p { stretches = record p.stretches { trailing_lines = lines }; after = gap }

@@ -1,20 +1,21 @@
 -- How a value, and a new pair, are written in a text in pieces.
-use Rattle.std.specs.Prelude.{◌≡◌, ◌≢◌, Bool, if◌then◌else◌, ℕ, List, [], ◌∷◌, ◌++◌}
+use Rattle.std.specs.Prelude.{◌≡◌, ◌≢◌, ◌&&◌, Bool, true, false, if◌then◌else◌, ℕ, List, [], ◌∷◌, ◌++◌}
 use Rattle.std.specs.Prelude.{Option, None, Some, chars, codes}
-use Rattle.std.specs.Option.{option_or}
+use Rattle.std.specs.Option.{option_or, unwrap_or}
 use Rattle.ini_text.specs.Escaping.EscapedTexts.{escaped}
 use Rattle.ini_text.specs.Grammar.CharacterKinds.{double_quote, equals, line_feed, single_quote}
 use Rattle.ini_text.specs.Grammar.Places.{ArePlaced, Stretches}
 use Rattle.ini_text.specs.Grammar.Positions.{starts_line}
-use Rattle.ini_text.specs.Laws.Plain.{IsPlainKey, IsPlainSeparator, IsReadBack}
+use Rattle.ini_text.specs.Grammar.Strings.{noted_key_ends}
+use Rattle.ini_text.specs.Laws.Plain.{IsPlainKey, IsPlainSeparator, IsReadBack, has_bare_note}
 use Rattle.ini_text.specs.Parsing.Fronts.{front_of}
 use Rattle.ini_text.specs.declared.option.ParseOption.{ParseOption}
 use Rattle.ini_text.specs.declared.write.option.WriteOption.{WriteOption}
 use Rattle.ini_text.specs.declared.write.policy.EscapePolicy.{EscapePolicy}
 use Rattle.ini.specs.Texts.{Text}
-use Rattle.ini_edit.specs.Quotes.{KeepsQuote, written_in}
+use Rattle.ini_edit.specs.Quotes.{KeepsQuote, quote_before, written_in}
 use Rattle.ini_edit.specs.SourceLines.{after_blanks, blanks_at_end}
-use Rattle.ini_edit.specs.Sources.{PairPiece, SectionPiece, pair_text, section_text}
+use Rattle.ini_edit.specs.Sources.{PairPiece, SectionPiece, has_separator, pair_text, section_text}
 use Rattle.ini_edit.specs.declared.error.EditError.{EditError}
 use Rattle.ini_edit.specs.declared.error.EditError.TheVariants.{Key, Separator, Text as TextError, Value}
 use Rattle.ini_text.specs.declared.error.Error.TheVariants.{Memory}
@@ -27,10 +28,11 @@ tried_key = codes "k"
 abbrev pub tried_line : (source trailing_lines : Text) → Stretches
 tried_line source trailing_lines = record {
   key = tried_key;
-  separator = equals;
+  separator = Some equals;
   space_before = [];
   raw_value = source;
   space_after = [];
+  note = [];
   trailing_lines = trailing_lines;
 }
 
@@ -63,13 +65,13 @@ pub record HasForm (o : ParseOption) (policy : EscapePolicy) (value : Text) : Ty
 
 -- What stands in the place of an old value's source, once the value is set: that source, where it gives the
 -- value already; else the first form that is read as it, of which the quote that the old value stands in
--- comes first.
-pub data IsWrittenInPlace (o : ParseOption) (policy : EscapePolicy) (raw_value old value : Text) : Text
-    → Type 0 where
-  stays : value ≡ old → IsWrittenInPlace o policy raw_value old value raw_value
+-- comes first, or double marks for an empty value before the note.
+pub data IsWrittenInPlace (o : ParseOption) (policy : EscapePolicy) (raw_value note old value : Text)
+    : Text → Type 0 where
+  stays : value ≡ old → IsWrittenInPlace o policy raw_value note old value raw_value
   written : {quote source : Text} → value ≢ old → KeepsQuote o raw_value value quote
-      → IsFirstReadAs o value (value_forms policy quote value) source
-      → IsWrittenInPlace o policy raw_value old value source
+      → IsFirstReadAs o value (value_forms policy (quote_before o note quote value) value) source
+      → IsWrittenInPlace o policy raw_value note old value source
 
 -- what indents a new pair, and its separator between blanks
 pub record Style : Type 0 where
@@ -92,7 +94,7 @@ style_like o p = record {
   indent = if o.enabled_preserve_key_leading_whitespace then []
       else front_of p.stretches.key (after_blanks p.stretches.key);
   pad = blanks_at_end p.stretches.key;
-  separator = p.stretches.separator;
+  separator = unwrap_or p.stretches.separator equals;
   space_before = front_of p.stretches.space_before (after_blanks p.stretches.space_before);
 }
 
@@ -105,11 +107,12 @@ option_style separator = record {
   space_before = rest_of (after_blanks separator);
 }
 
--- the last of the pairs after a text that begins a line, and the last one of sections
+-- the last of the pairs after a text that begins a line and has a separator, and the last one of sections
 abbrev pub last_that_begins : Text → List PairPiece → Option PairPiece
 last_that_begins front [] = None
 last_that_begins front (p ∷ ps) =
-    option_or (last_that_begins (front ++ pair_text p) ps) (if starts_line front then Some p else None)
+    option_or (last_that_begins (front ++ pair_text p) ps)
+    (if starts_line front && has_separator p then Some p else None)
 
 abbrev pub last_that_begins_in : Text → List SectionPiece → Option PairPiece
 last_that_begins_in front [] = None
@@ -137,10 +140,11 @@ abbrev pub new_pair : ParseOption → EscapePolicy → Style → (indented : Boo
 new_pair o policy style indented key value source lines gap = record {
   stretches = record {
     key = (if indented then style.indent else []) ++ (escaped policy key ++ style.pad);
-    separator = style.separator;
+    separator = Some style.separator;
     space_before = style.space_before;
     raw_value = source;
     space_after = [];
+    note = [];
     trailing_lines = if o.enabled_indented_mutiline_value then lines else [];
   };
   key = key;
@@ -154,6 +158,7 @@ module _ (o : ParseOption) (w : WriteOption) where
     pub plain_separator : IsPlainSeparator (chars w.kv_separator.now)
     pub has_form : HasForm o w.escape_policy value
     pub plain_key : IsPlainKey o w.escape_policy key
+    pub key_no_note : (noted_key_ends o).notes ≡ true → has_bare_note w.escape_policy key ≡ false
     pub key_read_back : IsReadBack o w.escape_policy key
 
   -- what a new pair is refused with for its words: the separator's fault first, then the value's, then the

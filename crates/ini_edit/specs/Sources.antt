@@ -1,6 +1,6 @@
 -- A text in pieces: its sections, each with its header, its pairs, and what follows each of these up to the
 -- next.
-use Rattle.std.specs.Prelude.{List, [], ◌∷◌, ◌++◌, map, Option}
+use Rattle.std.specs.Prelude.{Bool, ◌&&◌, List, [], ◌∷◌, ◌++◌, map, Option, is_some}
 use Rattle.std.specs.Borrow.{Bor}
 use Rattle.ini_text.specs.Grammar.Places.{Stretches, pair_source}
 use Rattle.ini_text.specs.Parsing.Items.{cow_text}
@@ -23,6 +23,14 @@ pub record PairPiece : Type 0 where
   pub key : Text
   pub value : Text
   pub after : Text
+
+-- a pair has a separator, and a key alone has none
+abbrev pub has_separator : PairPiece → Bool
+has_separator p = is_some p.stretches.separator
+
+-- where values are multiline, a pair goes on over lines unless it is a key alone
+abbrev pub is_multiline : ParseOption → PairPiece → Bool
+is_multiline o p = o.enabled_indented_mutiline_value && has_separator p
 
 -- A section: its name, and the source of its header, both none of the general section's; the gaps and
 -- comments that follow the header; and the pairs.

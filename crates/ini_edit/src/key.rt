@@ -4,7 +4,7 @@ ghost use Rattle.std.specs.Prelude.{◌≡◌, ◌↔◌, ◌==◌, IsOkUnless, 
 ghost use Rattle.ini_text.specs.Parsing.Items.{string_text};
 ghost use Rattle.ini_text.specs.declared.error.Error.TheVariants.{Memory};
 ghost use Rattle.ini_text.specs.Grammar.CharacterKinds.{space};
-ghost use Rattle.ini_text.specs.Inside.PlainTests.{begins};
+ghost use Rattle.ini_text.specs.Grammar.CharacterKinds.{begins};
 ghost use Rattle.ini_edit.specs.Inside.KeyEdges.{IsKeyStart, IsSkipped, IsWhiteEnd, PutsKey};
 ghost use Rattle.ini_edit.specs.Renamed.{HasEdges, IsPlainBareKey, is_key_white};
 
@@ -83,7 +83,7 @@ fn is_key_white(c: char, line: LoneLine) -> bool
 {
     match line {
         LoneLine::RunsOn => c.is_whitespace(),
-        LoneLine::Refused => c.is_whitespace() && !is_line_end(c),
+        LoneLine::Refused | LoneLine::Key => c.is_whitespace() && !is_line_end(c),
     }
 }
 

@@ -1,9 +1,11 @@
 //! The quotes that a value's source stands in. This file knows marks and backslashes, and no element.
-ghost use Rattle.std.specs.Prelude.{◌≡◌, ◌↔◌, ◌∷◌, ℕ, [], false, true, chars, MatchOption, Some};
+ghost use Rattle.std.specs.Prelude.{◌≡◌, ◌↔◌, ◌∷◌, ◌&&◌, ℕ, [], false, true, not, chars, MatchOption, Some};
 ghost use Rattle.ini_text.specs.Grammar.CharacterKinds.{is_quote_mark};
 ghost use Rattle.ini_edit.specs.Inside.Quotes.{IsOwnSource, IsBetweenQuoteMarks, after_quote_mark};
-ghost use Rattle.ini_edit.specs.Quotes.{KeepsQuote, has_quote_mark};
+ghost use Rattle.ini_edit.specs.Quotes.{KeepsQuote, has_quote_mark, quote_before};
+ghost use Rattle.ini_edit.specs.SourceLines.{is_empty};
 
+use crate::source::lines::is_empty;
 use ini_text::{ParseOption, split_first};
 
 /// The quote in which a value is written in another one's place: that in which the old one's source stands,
@@ -22,6 +24,29 @@ pub(crate) fn kept_quote(raw_value: &str, value: &str, read: ParseOption) -> &'s
         return "";
     }
     quote_mark_text(mark)
+}
+
+/// The quote that is tried first for a value before this note, which an empty bare one can't stand before.
+pub(crate) fn quote_before(
+    quote: &'static str,
+    value: &str,
+    note: &str,
+    read: ParseOption,
+) -> &'static str
+    ensures { chars result.now ≡ quote_before read (chars note.now) (chars quote.now) (chars value.now) }
+{
+    if is_lost(quote, value, note, read) {
+        return "\"";
+    }
+    quote
+}
+
+// Whether an empty value would stand bare before a note, where quotes are read.
+fn is_lost(quote: &str, value: &str, note: &str, read: ParseOption) -> bool
+    ensures { result ≡ (read.enabled_quote && (is_empty (chars quote.now)
+        && (is_empty (chars value.now) && not (is_empty (chars note.now))))) }
+{
+    read.enabled_quote && (is_empty(quote) && (is_empty(value) && !is_empty(note)))
 }
 
 // The mark between which a text stands.

@@ -1,6 +1,6 @@
 //! A text that was read once, in pieces: look-ups and edits without reading it again. This file knows
 //! sections by their calls.
-ghost use Rattle.std.specs.Prelude.{◌≡◌, ◌↔◌, ◌++◌, ◌∷◌, [], chars, Err, IfErr, IfOk, IsOkUnless, OnErr};
+ghost use Rattle.std.specs.Prelude.{◌≡◌, ◌++◌, ◌∷◌, [], chars, IfErr, IfOk, IsOkUnless, OnErr};
 ghost use Rattle.std.specs.Prelude.{MatchOption, None, OnOk, alloc_error, encode_utf8_all};
 ghost use Rattle.std.specs.Option.{option_map};
 ghost use Rattle.ini.specs.Documents.{first_section, value_in};
@@ -11,22 +11,16 @@ ghost use Rattle.ini_text.specs.Device.DeviceRefusals.{IsIoOrNoProgress};
 ghost use Rattle.ini_text.specs.Device.Gathering.{Sends};
 ghost use Rattle.ini_text.specs.Device.Watched.{IsClear, WritesBytes};
 ghost use Rattle.ini_text.specs.Parsing.Items.{string_text};
-ghost use Rattle.ini_edit.specs.Edited.{IsValueOrMemory};
 ghost use Rattle.ini_edit.specs.Inside.SourceSteps.{IsFirstAt};
-ghost use Rattle.ini_edit.specs.SourceEdits.{SetsValueIn, first_fitting};
+ghost use Rattle.ini_edit.specs.SourceEdits.{first_fitting};
 ghost use Rattle.ini_edit.specs.SourceReads.{AreRead};
 ghost use Rattle.ini_edit.specs.Sources.{document_in, given_pairs, sections_text, text_in};
-ghost use Rattle.ini_edit.specs.Writable.{IsWritableValue};
-ghost use Rattle.ini_edit.specs.declared.error.EditError.TheVariants as EditErrors;
 
-use crate::error::EditError;
 use crate::source::gap::reach_item;
 use crate::source::pair::SourcePair;
 use crate::source::section::SourceSection;
-use crate::writable::is_writable_value;
 use ini_text::{
-    Content, Error, EscapePolicy, Gatherer, ParseOption, Parser, PlacedElement, Watched,
-    is_same_text,
+    Content, Error, Gatherer, ParseOption, Parser, PlacedElement, Watched, is_same_text,
 };
 use std::alloc::{AllocError, Global};
 use std::io::Write;
@@ -146,41 +140,6 @@ impl<'a> Source<'a> {
             Some(section) => section.get(key),
             None => None,
         }
-    }
-
-    /// Sets the value of the first pair of a key in the first section of a name, where there is one: whether
-    /// there is. Later pairs of the key stay.
-    ///
-    /// A value that is there already stays as it is written. Another one is written as the policy says:
-    /// where quotes are read, and the old value stands in one pair of quotes, in the same, unless it has the
-    /// quote's mark. White space around the value stays, and so does every other byte.
-    ///
-    /// # Errors
-    ///
-    /// `Value` where the value isn't writable (`is_writable_value`), `Text` where memory is refused: nothing
-    /// is changed then.
-    pub fn set_value(
-        &mut self,
-        alloc: Global,
-        policy: EscapePolicy,
-        name: Option<&str>,
-        key: &str,
-        value: &str,
-    ) -> Result<bool, EditError>
-        ensures set { IfOk result (SetsValueIn self.old.option policy self.old self.new (str_name name.entry)
-            (chars key.now) (chars value.now)) }
-        ensures unchanged { OnErr result (self.new ≡ self.old) }
-        ensures value { (result ≡ Err EditErrors.Value)
-            ↔ ¬ IsWritableValue self.old.option policy (chars value.now) }
-        ensures only { IfErr result IsValueOrMemory }
-    {
-        if !is_writable_value(value, policy, self.option) {
-            return Err(EditError::Value);
-        }
-        let Some(index) = position(&self.sections, name) else {
-            return Ok(false);
-        };
-        Ok(self.sections[index].set_value(alloc, key, value, policy, self.option)?)
     }
 
     /// The text, every byte that was not edited as it was read.

@@ -1,7 +1,7 @@
 //! Comments' marks. This file knows no element.
 ghost use Rattle.std.specs.Prelude.{◌≡◌, chars};
 ghost use Rattle.ini_text.specs.Grammar.CharacterKinds.{is_comment_mark};
-ghost use Rattle.ini_text.specs.Inside.PlainTests.{begins};
+ghost use Rattle.ini_text.specs.Grammar.CharacterKinds.{begins};
 
 use ini_text::split_first;
 

@@ -131,5 +131,6 @@ outcome_of (file_refusal.Coding refused) = Coding refused
 abbrev pub usage_line : List ℕ
 usage_line =
     codes "usage: ini_file [--like NAME] [--noescape] [--noquote] [--multiline] [--indent] [--brackets] "
-    ++ codes "[--raw-backslash] [--indented-comments] [--lone-lines NAME] [--crlf] [--policy NAME] "
+    ++ codes "[--raw-backslash] [--indented-comments] [--inline-comments] [--lone-lines NAME] "
+    ++ codes "[--crlf] [--policy NAME] "
     ++ codes "COMMAND [CHOICE].. [--] FILE [ARGUMENT]..\n"

@@ -15,7 +15,7 @@ kind_of name =
     if bytes_eq name (codes "--noescape") || bytes_eq name (codes "--noquote")
     || bytes_eq name (codes "--multiline") || bytes_eq name (codes "--indent")
     || bytes_eq name (codes "--brackets") || bytes_eq name (codes "--raw-backslash")
-    || bytes_eq name (codes "--indented-comments")
+    || bytes_eq name (codes "--indented-comments") || bytes_eq name (codes "--inline-comments")
     || bytes_eq name (codes "--crlf") then Some Reading
     else if bytes_eq name (codes "--policy") || bytes_eq name (codes "--lone-lines") then Some ReadingText
     else if bytes_eq name (codes "--existing") || bytes_eq name (codes "--all")

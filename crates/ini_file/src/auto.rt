@@ -114,9 +114,12 @@ fn read_alike(one: ParseOption, other: ParseOption) -> bool {
         && one.enabled_brackets_in_section_names == other.enabled_brackets_in_section_names
         && one.enabled_raw_backslash == other.enabled_raw_backslash
         && one.enabled_indented_comment == other.enabled_indented_comment
+        && one.enabled_inline_comment == other.enabled_inline_comment
         && matches!(
             (one.line_without_separator, other.line_without_separator),
-            (LoneLine::RunsOn, LoneLine::RunsOn) | (LoneLine::Refused, LoneLine::Refused)
+            (LoneLine::RunsOn, LoneLine::RunsOn)
+                | (LoneLine::Refused, LoneLine::Refused)
+                | (LoneLine::Key, LoneLine::Key)
         )
 }
 

@@ -98,9 +98,13 @@ Options, of reading and of writing:
                  with --noescape a backslash is a character like any other
   --indented-comments
                  a comment may begin after blanks, among the lines of a value too
+  --inline-comments
+                 a comment may stand behind a value, after a space or a tab, and
+                 behind a section's name
   --lone-lines NAME
-                 a line in which no separator follows the key is refused, or runs-on
-                 (where none is named): the key goes on over the lines below
+                 a line in which no separator follows the key is refused; keys: it is
+                 a key alone, with the empty value; runs-on (where none is named): the
+                 key goes on over the lines below
   --crlf         written lines end with CR LF
   --policy NAME  which characters are written as escapes
   --encoding NAME

@@ -48,6 +48,7 @@ pub fn kind_of(name: &str) -> Option<Kind>
         | "--brackets"
         | "--raw-backslash"
         | "--indented-comments"
+        | "--inline-comments"
         | "--crlf" => { Some(Kind::Reading) }
         "--policy" | "--lone-lines" => Some(Kind::ReadingText),
         "--existing"

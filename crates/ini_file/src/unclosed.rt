@@ -1,5 +1,6 @@
 //! Where what has no end begins in a text that ends too early. This file knows no device.
 use ini::ParseOption;
+use ini_text::LoneLine;
 
 /// What has no end: the text from there on, and what it is, in words.
 #[derive(Clone, Copy)]
@@ -11,7 +12,7 @@ pub struct Unclosed<'a> {
 }
 
 /// What has no end in an element within which its text ends: its bracket, its key, the quote of its value,
-/// or an escape.
+/// or an escape; where a line may be a key alone, a key that is empty too.
 ///
 /// No contract says what is found; `tests/words.sh` tests it.
 pub fn find_unclosed<'a>(element: &'a str, read: ParseOption) -> Unclosed<'a> {
@@ -21,8 +22,7 @@ pub fn find_unclosed<'a>(element: &'a str, read: ParseOption) -> Unclosed<'a> {
         return Unclosed { place, words };
     }
     let Some(value) = after_key(place, read) else {
-        let words = "this key has no = or : after it";
-        return Unclosed { place, words };
+        return unclosed_key(place, read);
     };
     let value = value.trim_start();
     if read.enabled_quote && (value.starts_with('"') || value.starts_with('\'')) {
@@ -38,6 +38,29 @@ pub fn find_unclosed<'a>(element: &'a str, read: ParseOption) -> Unclosed<'a> {
     };
     let words = "this escape has no end";
     Unclosed { place, words }
+}
+
+// What has no end in a key that the text's end cuts short; where a line may be a key alone, the last escape,
+// if that lacks units, else the key, which is empty.
+fn unclosed_key(key: &str, read: ParseOption) -> Unclosed<'_> {
+    if !matches!(read.line_without_separator, LoneLine::Key) {
+        let words = "this key has no = or : after it";
+        return Unclosed { place: key, words };
+    }
+    let escape = match key.rfind("\\x") {
+        Some(at) => key.get(at..).unwrap_or(""),
+        None => "",
+    };
+    // each unit after \x has one character that is no backslash
+    if escape != "" && escape.chars().filter(|c| *c != '\\').count() < 5 {
+        let words = "this escape has no end";
+        return Unclosed {
+            place: escape,
+            words,
+        };
+    }
+    let words = "no key stands here";
+    Unclosed { place: key, words }
 }
 
 // What stands after the first separator of a pair.

@@ -457,7 +457,7 @@ const NO_POLICY: &str =
     "is no policy; --policy takes one of Nothing Basics BasicsUnicode BasicsUnicodeExtended Reserved \
     ReservedUnicode ReservedUnicodeExtended Everything";
 
-const NO_LONE_LINE: &str = "is no word on lone lines; --lone-lines takes refused or runs-on";
+const NO_LONE_LINE: &str = "is no word on lone lines; --lone-lines takes refused, keys or runs-on";
 
 const NO_SECONDS: &str = "is no number of seconds; --wait takes one, as 10";
 

@@ -80,7 +80,8 @@ impl Looks {
             Content::Pair(pair)
                 if self.is_in && wanted.rule.case.fits(wanted.key, pair.key.as_str()) => {
                 let places = pair.places;
-                let before = places.key.len().saturating_add(1);
+                let separator = places.separator.map_or(0, |c| c.len_utf8());
+                let before = places.key.len().saturating_add(separator);
                 Some(before.saturating_add(places.space_before.len()))
             }
             _ => None,

@@ -1,9 +1,9 @@
 //! Many calls in a heap of few bytes: what is dropped is given back, and what is streamed isn't kept.
 use crate::devices::StepReader;
 use crate::scarce::Famine;
+use crate::show::{joined, numbered};
 use ini::{Error, Ini, ParseOption, Properties, Watched};
 use std::alloc::Global;
-use std::fmt::Write;
 use std::panic::Expect;
 use std::process::Abort;
 
@@ -13,61 +13,43 @@ const BLOCKS: usize = 4;
 /// How many documents are made: they would run out where each kept 32 bytes.
 const MANY: usize = 10_000;
 
-// Twenty sections, and a section of twenty pairs: more than those that have no index.
-fn sections(rt: &(impl Abort + AllocGlobal)) -> String {
-    let mut text = String::new(rt.alloc());
-    for number in 0..20u32 {
-        assert!(rt; write!(text, "[section {number}]\nkey=value\n").is_ok());
-    }
-    for number in 0..20u32 {
-        assert!(rt; write!(text, "key {number}=value {number}\n").is_ok());
-    }
-    text
+/// What is done with a document before it is dropped.
+#[derive(Clone, Copy)]
+enum Before {
+    Nothing,
+    Walk,
+    Clear,
+    Delete,
 }
 
-// What is done with a document before it is dropped; whether it was loaded.
-fn is_dropped(alloc: Global, text: &str) -> bool {
-    Ini::load_from_str(alloc, text).is_ok()
-}
-
-fn is_walked(alloc: Global, text: &str) -> bool {
-    match Ini::load_from_str(alloc, text) {
-        Ok(document) => document.into_iter().next().is_some(),
-        Err(_) => false,
-    }
-}
-
-fn is_cleared(alloc: Global, text: &str) -> bool {
-    match Ini::load_from_str(alloc, text) {
-        Ok(mut document) => {
+// Whether it is loaded and that is done.
+fn is_done(alloc: Global, text: &str, before: Before) -> bool {
+    let Ok(mut document) = Ini::load_from_str(alloc, text) else {
+        return false;
+    };
+    match before {
+        Before::Nothing => true,
+        Before::Walk => document.into_iter().next().is_some(),
+        Before::Clear => {
             document.clear();
             document.is_empty()
         }
-        Err(_) => false,
+        Before::Delete => document.delete(Some("section 19")).is_some(),
     }
 }
 
-fn is_emptied(alloc: Global, text: &str) -> bool {
-    match Ini::load_from_str(alloc, text) {
-        Ok(mut document) => document.delete(Some("section 19")).is_some(),
-        Err(_) => false,
-    }
-}
-
+// Twenty sections, and a section of twenty pairs: more than those that have no index.
 #[test]
 fn documents_that_are_dropped_give_their_memory_back(rt: HostRuntime) {
-    let (alloc, text) = (rt.alloc(), sections(&rt));
+    let sections = numbered(&rt, "[section @]\nkey=value\n", 0, 20);
+    let pairs = numbered(&rt, "key @=value @\n", 0, 20);
+    let text = joined(&rt, &[sections.as_str(), pairs.as_str()]);
     let mut famine = Famine::new(&rt);
     famine.leave_blocks(&rt, BLOCKS);
     for _ in 0..MANY {
-        assert!(rt;
-            is_dropped(alloc, &text) && is_walked(alloc, &text),
-            "dropped, walked"
-        );
-        assert!(rt;
-            is_cleared(alloc, &text) && is_emptied(alloc, &text),
-            "cleared, emptied"
-        );
+        for before in [Before::Nothing, Before::Walk, Before::Clear, Before::Delete] {
+            assert!(rt; is_done(rt.alloc(), &text, before));
+        }
     }
 }
 
@@ -85,8 +67,11 @@ fn holes_take_no_more_memory_than_pairs(rt: HostRuntime) {
     for count in [0, 20] {
         let mut pairs = Properties::new(rt.alloc());
         for number in 0..count {
-            let key = format!(in rt.alloc(); "{number}").expect(&rt, "memory");
-            assert!(rt; pairs.append(&key, "value").is_ok());
+            assert!(rt;
+                pairs
+                    .append(&numbered(&rt, "@", number, 1), "value")
+                    .is_ok()
+            );
         }
         let mut famine = Famine::new(&rt);
         famine.leave_blocks(&rt, 1);
@@ -96,13 +81,6 @@ fn holes_take_no_more_memory_than_pairs(rt: HostRuntime) {
 
 /// How many bytes there are for a text that is streamed.
 const ROOM: usize = 3_000_000;
-
-// So many pairs, each on a line of 10,000 bytes.
-fn long_lines(rt: &(impl Abort + AllocGlobal), count: usize) -> String {
-    let blanks = " ".repeat(rt.alloc(), 9_990).expect(rt, "memory");
-    let line = format!(in rt.alloc(); "key=value{blanks}\n").expect(rt, "memory");
-    line.repeat(rt.alloc(), count).expect(rt, "memory")
-}
 
 // Reads the text, and answers the number of its pairs.
 fn pairs_read(alloc: Global, reader: &mut StepReader<'_>) -> Result<usize, Error> {
@@ -114,13 +92,15 @@ fn pairs_read(alloc: Global, reader: &mut StepReader<'_>) -> Result<usize, Error
     }
 }
 
+// A thousand pairs, each on a line of 10,000 bytes.
 #[test]
 fn a_long_text_goes_by_in_large_pieces(rt: HostRuntime) {
-    let text = long_lines(&rt, 1000);
+    let blanks = " ".repeat(rt.alloc(), 9_990).expect(&rt, "memory");
+    let line = joined(&rt, &["key=value", blanks.as_str(), "\n"]);
+    let text = line.repeat(rt.alloc(), 1000).expect(&rt, "memory");
     let mut reader = StepReader::new(text.as_bytes(), usize::MAX);
     let _famine = Famine::with_room(&rt, ROOM);
     let pairs = pairs_read(rt.alloc(), &mut reader);
     assert!(rt; matches!(pairs, Ok(1000)));
-    assert!(rt; reader.least_asked >= 4096, "{}", reader.least_asked);
-    assert!(rt; reader.calls <= text.len() / 4096, "{}", reader.calls);
+    assert!(rt; reader.least_asked >= 4096 && reader.calls <= text.len() / 4096);
 }

@@ -8,7 +8,6 @@ mod counting;
 mod from_the_front;
 mod list;
 mod look_ups;
-mod odd_keys;
 mod run;
 mod walks;
 mod walks_for_writing;

@@ -2,54 +2,8 @@
 //! from then on the device works, so that it shows where it is asked again.
 use ini::{Error, Watched};
 use std::alloc::Global;
-use std::fmt::Debug;
 use std::io;
 use std::io::{ErrorKind, Read, Write};
-use std::process::Abort;
-
-/// A reader of one byte at a time, which answers a fault at one of its calls.
-#[derive(Drop)]
-pub(crate) struct SlowReader<'a> {
-    rest: &'a [u8],
-    fails_at: usize,
-    fault: ErrorKind,
-    pub(crate) calls: usize,
-}
-
-impl<'a> SlowReader<'a> {
-    /// A reader of the bytes that never fails.
-    pub(crate) fn new(bytes: &'a [u8]) -> SlowReader<'a> {
-        SlowReader::failing(bytes, 0, ErrorKind::Other)
-    }
-
-    /// A reader of the bytes whose call of this number, from 1, answers the fault.
-    pub(crate) fn failing(bytes: &'a [u8], call: usize, fault: ErrorKind) -> SlowReader<'a> {
-        SlowReader {
-            rest: bytes,
-            fails_at: call,
-            fault,
-            calls: 0,
-        }
-    }
-}
-
-impl Read for SlowReader<'_> {
-    fn read(&mut self, buf: &mut [u8]) -> io::Result<usize> {
-        self.calls = self.calls.saturating_add(1);
-        if self.calls == self.fails_at {
-            return Err(io::Error::from(self.fault));
-        }
-        let [first, rest @ ..] = self.rest else {
-            return Ok(0);
-        };
-        if buf.is_empty() {
-            return Ok(0);
-        }
-        buf[0] = *first;
-        self.rest = rest;
-        Ok(1)
-    }
-}
 
 /// A reader of at most so many bytes in a call, which answers a fault at one of its calls.
 #[derive(Drop)]
@@ -104,7 +58,7 @@ impl Read for StepReader<'_> {
 
 /// How much a writer takes: `room` bytes, at most `step` in a call. The call that finds no room answers the
 /// fault or, where there is none, takes no bytes.
-#[derive(Clone, Copy, Debug)]
+#[derive(Clone, Copy)]
 pub(crate) struct Limits {
     pub(crate) room: usize,
     pub(crate) step: usize,
@@ -128,11 +82,6 @@ impl Limits {
             Err(Error::NoProgress) => full && self.fault.is_none(),
             Err(_) => false,
         }
-    }
-
-    /// Asks that this held of a writer with these limits, and of what is named.
-    pub(crate) fn expect(self, rt: &impl Abort, of: impl Debug + Drop, as_expected: bool) {
-        assert!(rt; as_expected, "{of:?}: {self:?}");
     }
 }
 

@@ -1,10 +1,10 @@
-//! Whole runs from a text to the bytes of its edited document, over devices that fail and with each request
-//! for memory refused; and lists of edits with each request refused.
+//! Whole runs from a text to the bytes of its edited document, and lists of edits, with each request for
+//! memory refused.
 ghost use Rattle.ini_text.specs.Device.Watched.{IsClear};
 
-use crate::devices::{LimitedWriter, Limits, WRITE_FAULTS, is_counted, is_quiet};
-use crate::scarce::{CALLS, Famine};
-use crate::show::{loaded, shown, text};
+use crate::devices::is_quiet;
+use crate::scarce::{Attempt, refusals};
+use crate::show::{is_shown, loaded, text};
 use ini::edits::{Edit, apply, edit_text};
 use ini::{Error, Ini, ParseOption, Watched, WriteOption};
 use std::alloc::Global;
@@ -16,7 +16,7 @@ use std::process::Abort;
 const PEERS: &'static str = "[p]\nk=1\n[q]\n[p]\nk=2\n";
 
 /// The edits: the first pair k is set, one is added to q, one taken out, and a new section is opened.
-fn edits(rt: &(impl Abort + AllocGlobal)) -> Vec<Edit> {
+pub(crate) fn edits(rt: &(impl Abort + AllocGlobal)) -> Vec<Edit> {
     let edits = [
         Edit::Set(Some(text(rt, "p")), text(rt, "k"), text(rt, "9")),
         Edit::Add(Some(text(rt, "q")), text(rt, "k"), text(rt, "é")),
@@ -27,7 +27,7 @@ fn edits(rt: &(impl Abort + AllocGlobal)) -> Vec<Edit> {
 }
 
 /// What is written of the edited document.
-const EDITED: &'static str = "[p]\n[q]\nk=é\n\n[p]\nk=2\n\n[n]\nk=v\n";
+pub(crate) const EDITED: &'static str = "[p]\n[q]\nk=é\n\n[p]\nk=2\n\n[n]\nk=v\n";
 
 /// What the document shows after none of the edits, after the first, and so on.
 const SHOWN: [&'static str; 5] = [
@@ -39,124 +39,97 @@ const SHOWN: [&'static str; 5] = [
 ];
 
 /// Edits the text by the default options.
-fn edit<W: Write>(alloc: Global, edits: &[Edit], out: &mut Watched<'_, W>) -> Result<(), Error>
+pub(crate) fn edit<W: Write>(
+    alloc: Global,
+    edits: &[Edit],
+    out: &mut Watched<'_, W>,
+) -> Result<(), Error>
     requires { IsClear out.old }
 {
     let (read, write) = (ParseOption::default(), WriteOption::default());
     edit_text(alloc, PEERS, read, edits, write, out)
 }
 
-// Writes the edited text. Whether what stopped it is reported and counted.
-fn is_reported(alloc: Global, edits: &[Edit], device: &mut LimitedWriter, limits: Limits) -> bool {
-    let mut out = Watched::new(device);
-    let answer = edit(alloc, edits, &mut out);
-    limits.is_reported(&answer, EDITED) && is_counted(&out, &answer)
+/// A text that is edited and written to a place. Refused, nothing is written.
+#[derive(Drop)]
+struct Writing {
+    edits: Vec<Edit>,
+    place: [u8; 64],
 }
 
-/// Asks that as much of the edited text goes out as there is room for, that what stopped it is reported and
-/// counted, that no call follows it, and that nothing is flushed.
-fn expect_front(rt: &(impl Abort + AllocGlobal), edits: &[Edit], limits: Limits) {
-    let mut device = LimitedWriter::new(rt.alloc(), limits);
-    let reported = is_reported(rt.alloc(), edits, &mut device, limits);
-    limits.expect(rt, "edited", reported && device.has_front_of(EDITED));
-}
-
-#[test]
-fn edited_texts_fail_at_each_byte(rt: HostRuntime) {
-    let edits = edits(&rt);
-    for room in 0..=EDITED.len() {
-        for fault in WRITE_FAULTS {
-            for step in [1, usize::MAX] {
-                expect_front(&rt, edits.as_slice(), Limits { room, step, fault });
-            }
-        }
+impl Attempt for Writing {
+    fn is_ready(&mut self, _alloc: Global) -> bool {
+        self.place == [0u8; 64]
     }
-}
 
-// Edits the text with so much memory. Whether it was enough; refused, nothing was written. No fault is
-// counted.
-fn is_edited(
-    rt: &(impl Abort + AllocGlobal),
-    famine: &mut Famine,
-    steps: usize,
-    edits: &[Edit],
-) -> bool {
-    let mut place = [0u8; 64];
-    let mut writer: &mut [u8] = &mut place;
-    let mut out = Watched::new(&mut writer);
-    let rest = famine.leave(rt, steps);
-    let answer = edit(rt.alloc(), edits, &mut out);
-    drop(rest);
-    assert!(rt; is_quiet(&out));
-    match answer {
-        Ok(()) => {
-            assert!(rt; place.starts_with(EDITED.as_bytes()));
-            true
-        }
-        Err(refused) => {
-            assert!(rt; matches!(refused, Error::Memory(_)));
-            assert!(rt; place == [0u8; 64]);
-            false
+    // No fault is counted.
+    fn make(&mut self, alloc: Global) -> Result<(), Error> {
+        let Writing { edits, place } = self;
+        let mut writer: &mut [u8] = place;
+        let mut out = Watched::new(&mut writer);
+        let answer = edit(alloc, edits.as_slice(), &mut out);
+        if is_quiet(&out) {
+            answer
+        } else {
+            Err(Error::NoProgress)
         }
     }
 }
 
 #[test]
 fn each_request_of_an_edited_text_is_refused(rt: HostRuntime) {
-    let edits = edits(&rt);
-    let mut famine = Famine::new(&rt);
-    for steps in 0..CALLS {
-        if is_edited(&rt, &mut famine, steps.saturating_mul(4), edits.as_slice()) {
-            assert!(rt; steps > 0);
-            return;
-        }
-    }
-    panic!(rt; "never edited")
+    let mut writing = Writing {
+        edits: edits(&rt),
+        place: [0u8; 64],
+    };
+    assert!(rt; refusals(&rt, "an edited text", 4, &mut writing) > 0);
+    assert!(rt; writing.place.starts_with(EDITED.as_bytes()));
 }
 
-/// How many of the edits a document shows.
-fn edits_made(rt: &(impl Abort + AllocGlobal), document: &Ini) -> usize {
-    let shown = shown(rt, document);
-    for (made, want) in SHOWN.iter().enumerate() {
-        if *want == shown.as_str() {
-            return made;
-        }
-    }
-    panic!(rt; "other edits")
+/// A document that is edited. Refused, the edits before the refused one stand.
+#[derive(Drop)]
+struct Editing {
+    edits: Vec<Edit>,
+    document: Ini,
+    most: usize,
 }
 
-// Makes the edits with so much memory. How many were made, and whether that is all of them; refused, memory
-// was.
-fn made_with(
-    rt: &(impl Abort + AllocGlobal),
-    famine: &mut Famine,
-    steps: usize,
-    edits: &[Edit],
-) -> (usize, bool) {
-    let mut document = loaded(rt, PEERS);
-    let rest = famine.leave(rt, steps);
-    let answer = apply(&mut document, edits);
-    drop(rest);
-    let reported = matches!(answer, Ok(()) | Err(Error::Memory(_)));
-    assert!(rt; reported);
-    (edits_made(rt, &document), answer.is_ok())
+impl Editing {
+    // How many of the edits the document shows; 5 is another document.
+    fn made(&self, alloc: Global) -> usize {
+        for (made, want) in SHOWN.iter().enumerate() {
+            if is_shown(alloc, &self.document, *want) {
+                return made;
+            }
+        }
+        SHOWN.len()
+    }
+}
+
+impl Attempt for Editing {
+    // The third edit takes no memory.
+    fn is_ready(&mut self, alloc: Global) -> bool {
+        let (before, made) = (self.most, self.made(alloc));
+        self.most = made;
+        match Ini::load_from_str(alloc, PEERS) {
+            Ok(document) => self.document = document,
+            Err(_) => return false,
+        }
+        made >= before && matches!(made, 0 | 1 | 3)
+    }
+
+    fn make(&mut self, _alloc: Global) -> Result<(), Error> {
+        apply(&mut self.document, self.edits.as_slice())
+    }
 }
 
 #[test]
 fn edits_before_a_refused_one_stand(rt: HostRuntime) {
-    let edits = edits(&rt);
-    let mut famine = Famine::new(&rt);
-    let mut most = 0;
-    for steps in 0..CALLS {
-        let (made, all) = made_with(&rt, &mut famine, steps, edits.as_slice());
-        assert!(rt; made >= most);
-        if all {
-            assert!(rt; (most, made) == (3, 4));
-            return;
-        }
-        // the third edit takes no memory
-        assert!(rt; matches!(made, 0 | 1 | 3), "{made} edits");
-        most = made;
-    }
-    panic!(rt; "never made")
+    let mut editing = Editing {
+        edits: edits(&rt),
+        document: loaded(&rt, PEERS),
+        most: 0,
+    };
+    assert!(rt; refusals(&rt, "edits", 1, &mut editing) > 0);
+    assert!(rt; (editing.most, editing.made(rt.alloc())) == (3, 4));
 }

@@ -1,12 +1,13 @@
 //! Each request for memory of a growing call refused in turn: refused, the call tells that and leaves all as
 //! it was; else it answers as it does with ample memory.
-use crate::scarce::{CALLS, Famine};
-use crate::show::{expect_shown, loaded, text};
-use ini::{Error, Ini, NoRoom, Properties, SectionEntry};
+use crate::scarce::{Attempt, refusals, refused};
+use crate::show::{expect_shown, is_shown, loaded};
+use ini::{Error, Ini, Properties, SectionEntry};
+use std::alloc::Global;
 use std::process::Abort;
 
 /// The calls.
-#[derive(Clone, Copy, Debug)]
+#[derive(Clone, Copy)]
 enum Call {
     Append,
     Insert,
@@ -18,8 +19,8 @@ enum Call {
     Add,
     OrInsert,
     OrInsertWith,
-    VacantInsert,
-    OccupiedAppend,
+    /// `insert` of a vacant entry, `append` of an occupied one.
+    OfEntry,
 }
 
 /// What a call is given: a name, a key, the value `v`, and properties of one pair.
@@ -32,65 +33,53 @@ struct Given {
 }
 
 impl Given {
-    fn new(rt: &(impl Abort + AllocGlobal), name: &str, key: &str) -> Given {
-        let mut section = Properties::new(rt.alloc());
-        assert!(rt; section.append("k", "v").is_ok());
-        Given {
-            name: Some(text(rt, name)),
-            key: text(rt, key),
-            value: text(rt, "v"),
+    fn new(alloc: Global, name: &str, key: &str) -> Result<Given, Error> {
+        let mut section = Properties::new(alloc);
+        section.append("k", "v")?;
+        Ok(Given {
+            name: Some(String::from_str(alloc, name)?),
+            key: String::from_str(alloc, key)?,
+            value: String::from_str(alloc, "v")?,
             section,
-        }
+        })
     }
-}
-
-/// What a refused call tells.
-#[derive(Drop)]
-enum Refusal {
-    Told(Error),
-    HandedBack(NoRoom),
 }
 
 impl Call {
     /// Makes a call of the document, or of the properties of the first section of the name. A copy takes the
     /// document's place.
-    fn make(self, document: &mut Ini, given: Given) -> Result<(), Refusal> {
-        if self.is_of_entry() {
-            return match self.make_of_entry(document, given) {
-                Ok(()) => Ok(()),
-                Err(refused) => Err(Refusal::HandedBack(refused)),
-            };
-        }
-        let answer = match self {
-            Call::SetTo => set_to(document, given),
-            _ => self.make_of_document(document, given.name.as_deref(), &given.key),
+    fn make(self, document: &mut Ini, given: Given) -> Result<(), Error> {
+        let Given {
+            name,
+            key,
+            value,
+            section,
+        } = given;
+        let name = match self {
+            Call::OrInsert | Call::OrInsertWith | Call::OfEntry => {
+                return self.make_of_entry(document, name, section);
+            }
+            _ => name.as_deref(),
         };
-        match answer {
-            Ok(()) => Ok(()),
-            Err(refused) => Err(Refusal::Told(refused)),
-        }
-    }
-
-    fn make_of_document(
-        self,
-        document: &mut Ini,
-        name: Option<&str>,
-        key: &str,
-    ) -> Result<(), Error> {
         match self {
-            Call::CloneDocument => *document = document.clone()?,
+            Call::SetTo => document.set_to(name, key, value),
+            Call::CloneDocument => {
+                *document = document.clone()?;
+                Ok(())
+            }
             Call::Set => {
-                document.with_section(name).set(key, "v")?;
+                document.with_section(name).set(&key, "v")?;
+                Ok(())
             }
             Call::Add => {
-                document.with_section(name).add(key, "v")?;
+                document.with_section(name).add(&key, "v")?;
+                Ok(())
             }
             _ => match document.section_mut(name) {
-                Some(section) => self.make_of_pairs(section, key)?,
-                None => return Err(Error::NotUtf8),
+                Some(section) => self.make_of_pairs(section, &key),
+                None => Err(Error::NotUtf8),
             },
         }
-        Ok(())
     }
 
     fn make_of_pairs(self, section: &mut Properties, key: &str) -> Result<(), Error> {
@@ -109,40 +98,33 @@ impl Call {
         }
     }
 
-    fn make_of_entry(self, document: &mut Ini, given: Given) -> Result<(), NoRoom> {
-        let Given { name, section, .. } = given;
-        match (self, document.entry(name)) {
-            (Call::OrInsert, entry) => {
-                entry.or_insert(section)?;
-            }
-            (Call::OrInsertWith, entry) => {
-                entry.or_insert_with(move || section)?;
-            }
-            (_, SectionEntry::Vacant(entry)) => {
-                entry.insert(section)?;
-            }
-            (_, SectionEntry::Occupied(mut entry)) => entry.append(section)?,
+    // Refused, the entry hands the properties back.
+    fn make_of_entry(
+        self,
+        document: &mut Ini,
+        name: Option<String>,
+        section: Properties,
+    ) -> Result<(), Error> {
+        let answer = match (self, document.entry(name)) {
+            (Call::OrInsert, entry) => match entry.or_insert(section) {
+                Ok(_) => Ok(()),
+                Err(back) => Err(back),
+            },
+            (Call::OrInsertWith, entry) => match entry.or_insert_with(move || section) {
+                Ok(_) => Ok(()),
+                Err(back) => Err(back),
+            },
+            (_, SectionEntry::Vacant(entry)) => match entry.insert(section) {
+                Ok(_) => Ok(()),
+                Err(back) => Err(back),
+            },
+            (_, SectionEntry::Occupied(mut entry)) => entry.append(section),
+        };
+        match answer {
+            Ok(()) => Ok(()),
+            Err(back) => refused(back.value.get("k") == Some("v") && back.value.len() == 1),
         }
-        Ok(())
     }
-
-    /// Whether an entry makes the call.
-    fn is_of_entry(self) -> bool {
-        matches!(
-            self,
-            Call::OrInsert | Call::OrInsertWith | Call::VacantInsert | Call::OccupiedAppend
-        )
-    }
-}
-
-fn set_to(document: &mut Ini, given: Given) -> Result<(), Error> {
-    let Given {
-        name,
-        key,
-        value,
-        ..
-    } = given;
-    document.set_to(name.as_deref(), key, value)
 }
 
 /// A document that each call is made on, and what it shows.
@@ -187,63 +169,37 @@ const ROWS: [(Call, &'static str, &'static str, &'static str); 19] = [
     (Call::Add, "n", "k", OPENED),
     (Call::OrInsert, "n", "k", OPENED),
     (Call::OrInsertWith, "n", "k", OPENED),
-    (Call::VacantInsert, "n", "k", OPENED),
+    (Call::OfEntry, "n", "k", OPENED),
     (
-        Call::OccupiedAppend,
+        Call::OfEntry,
         "p",
         "k",
         "general: [p]: <k|1> <k|2> <a|3> <b|4> [q]: [r]: [p]: <k|v> ",
     ),
 ];
 
-// Whether a refusal is the one that the call names, and hands back what an entry was given.
-fn is_refusal_of(call: Call, refusal: &Refusal) -> bool {
-    match refusal {
-        Refusal::Told(Error::Memory(_)) => !call.is_of_entry(),
-        Refusal::HandedBack(refused) => {
-            let pairs = &refused.value;
-            call.is_of_entry() && pairs.get("k") == Some("v") && pairs.len() == 1
-        }
-        _ => false,
-    }
+/// A call that is made on a document.
+#[derive(Drop)]
+struct Growth<'a> {
+    call: Call,
+    name: &'a str,
+    key: &'a str,
+    document: Ini,
+    given: Option<Given>,
 }
 
-// Makes the call with so much memory. Whether it was enough; refused, it tells that.
-fn is_made(
-    rt: &(impl Abort + AllocGlobal),
-    famine: &mut Famine,
-    steps: usize,
-    (call, name, key): (Call, &str, &str),
-    document: &mut Ini,
-) -> bool {
-    let given = Given::new(rt, name, key);
-    let rest = famine.leave(rt, steps);
-    let answer = call.make(document, given);
-    drop(rest);
-    match answer {
-        Ok(()) => true,
-        Err(refusal) => {
-            assert!(rt; is_refusal_of(call, &refusal), "{call:?}");
-            false
-        }
+impl Attempt for Growth<'_> {
+    fn is_ready(&mut self, alloc: Global) -> bool {
+        self.given = Given::new(alloc, self.name, self.key).ok();
+        is_shown(alloc, &self.document, SHOWN)
     }
-}
 
-// Makes the call with more and more memory until it has enough, and answers how often it was refused and
-// the document stayed.
-fn grow(
-    rt: &(impl Abort + AllocGlobal),
-    (call, name, key): (Call, &str, &str),
-    document: &mut Ini,
-) -> usize {
-    let mut famine = Famine::new(rt);
-    for steps in 0..CALLS {
-        if is_made(rt, &mut famine, steps, (call, name, key), document) {
-            return steps;
+    fn make(&mut self, _alloc: Global) -> Result<(), Error> {
+        match self.given.take() {
+            Some(given) => self.call.make(&mut self.document, given),
+            None => Err(Error::NotUtf8),
         }
-        expect_shown(rt, call, document, SHOWN);
     }
-    panic!(rt; "{call:?}: never enough")
 }
 
 /// Asks that the call, with enough memory, does so, and answers how often it was refused before.
@@ -251,9 +207,15 @@ fn expect_growth(
     rt: &(impl Abort + AllocGlobal),
     (call, name, key, want): (Call, &str, &str, &str),
 ) -> usize {
-    let mut document = loaded(rt, TEXT);
-    let refused = grow(rt, (call, name, key), &mut document);
-    expect_shown(rt, call, &document, want);
+    let mut growth = Growth {
+        call,
+        name,
+        key,
+        document: loaded(rt, TEXT),
+        given: None,
+    };
+    let refused = refusals(rt, want, 1, &mut growth);
+    expect_shown(rt, &growth.document, want);
     refused
 }
 

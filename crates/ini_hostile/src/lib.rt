@@ -24,8 +24,6 @@ mod loading;
 #[cfg(test)]
 mod long_texts;
 #[cfg(test)]
-mod merges;
-#[cfg(test)]
 mod multimap;
 #[cfg(test)]
 mod no_memory;
@@ -37,8 +35,6 @@ mod scarce;
 mod show;
 #[cfg(test)]
 mod sources;
-#[cfg(test)]
-mod view;
 #[cfg(test)]
 mod watched;
 #[cfg(test)]

@@ -1,16 +1,16 @@
 //! Each request for memory of a growing call of the multimap refused in turn.
-use crate::scarce::{CALLS, Famine};
-use crate::show::{expect_text, text};
-use ini_multimap::{Multimap, Refused};
-use std::fmt::Write;
-use std::panic::Expect;
+use crate::scarce::{Attempt, refusals, refused};
+use crate::show::{expect, joined, numbered, text};
+use ini::Error;
+use ini_multimap::Multimap;
+use std::alloc::{AllocError, Global};
 use std::process::Abort;
 
 /// Texts under texts.
 type Map = Multimap<String, String>;
 
 /// The growing calls.
-#[derive(Clone, Copy, Debug)]
+#[derive(Clone, Copy)]
 enum Call {
     Append,
     AppendUnindexed,
@@ -20,55 +20,90 @@ enum Call {
     Clone,
 }
 
-/// What a refused call tells.
+/// A call that is made at a key with the value `v` on a multimap of these pairs.
 #[derive(Drop)]
-enum Refusal {
-    HandedBack(Refused<String, String>),
-    Told,
+struct Growth<'a> {
+    call: Call,
+    key: &'a str,
+    map: Map,
+    pairs: &'a str,
+    given: Option<(String, String)>,
 }
 
-impl Call {
-    /// Makes the call. A copy takes the multimap's place.
-    fn make(self, map: &mut Map, key: String, value: String) -> Result<(), Refusal> {
-        match self {
-            Call::Append => match map.append(key, value) {
-                Ok(()) => Ok(()),
-                Err(refused) => Err(Refusal::HandedBack(refused)),
-            },
-            Call::AppendUnindexed => match map.append_unindexed(key, value) {
-                Ok(()) => Ok(()),
-                Err(refused) => Err(Refusal::HandedBack(refused)),
-            },
-            Call::MakeIndex => match map.make_index() {
-                Ok(()) => Ok(()),
-                Err(_) => Err(Refusal::Told),
-            },
-            Call::Insert => match map.insert(key, value) {
+// What follows `<key|value>` at a text's front. None where that doesn't stand there.
+fn after_pair<'t>(text: &'t str, key: &str, value: &str) -> Option<&'t str> {
+    let rest = text.strip_prefix("<")?.strip_prefix(key)?;
+    rest.strip_prefix("|")?
+        .strip_prefix(value)?
+        .strip_prefix(">")
+}
+
+impl Growth<'_> {
+    // Whether the multimap has these pairs, in order.
+    fn has(&self, want: &str) -> bool {
+        let mut rest = want;
+        for (key, value) in &self.map {
+            match after_pair(rest, key.as_str(), value.as_str()) {
+                Some(following) => rest = following,
+                None => return false,
+            }
+        }
+        rest.is_empty()
+    }
+
+    // Makes the call, which hands back what it was given.
+    fn give(&mut self, key: String, value: String) -> Result<(), Error> {
+        let answer = match self.call {
+            Call::Append => self.map.append(key, value),
+            Call::AppendUnindexed => self.map.append_unindexed(key, value),
+            _ => match self.map.insert(key, value) {
                 Ok(_) => Ok(()),
-                Err(refused) => Err(Refusal::HandedBack(refused)),
+                Err(back) => Err(back),
             },
-            Call::RemoveAll => match map.remove_all(key.as_str()) {
+        };
+        match answer {
+            Ok(()) => Ok(()),
+            Err(back) => refused(back.key.as_str() == self.key && back.value.as_str() == "v"),
+        }
+    }
+
+    // Makes the call, which is given nothing. A copy takes the multimap's place.
+    fn ask(&mut self) -> Result<(), AllocError> {
+        match self.call {
+            Call::MakeIndex => self.map.make_index(),
+            Call::RemoveAll => match self.map.remove_all(self.key) {
                 Ok(_) => Ok(()),
-                Err(_) => Err(Refusal::Told),
+                Err(refused) => Err(refused),
             },
-            Call::Clone => match map.clone() {
-                Ok(copy) => {
-                    *map = copy;
-                    Ok(())
-                }
-                Err(_) => Err(Refusal::Told),
-            },
+            _ => {
+                self.map = self.map.clone()?;
+                Ok(())
+            }
         }
     }
 }
 
-// Asks that the multimap has the pairs, in order.
-fn expect_pairs(rt: &(impl Abort + AllocGlobal), call: Call, map: &Map, want: &str) {
-    let mut got = String::new(rt.alloc());
-    for (key, value) in map {
-        assert!(rt; write!(got, "<{key}|{value}>").is_ok());
+// A key and a value.
+fn pair(alloc: Global, key: &str) -> Result<(String, String), AllocError> {
+    Ok((String::from_str(alloc, key)?, String::from_str(alloc, "v")?))
+}
+
+impl Attempt for Growth<'_> {
+    fn is_ready(&mut self, alloc: Global) -> bool {
+        self.given = pair(alloc, self.key).ok();
+        self.has(self.pairs)
     }
-    expect_text(rt, call, &got, want);
+
+    fn make(&mut self, _alloc: Global) -> Result<(), Error> {
+        if matches!(self.call, Call::MakeIndex | Call::RemoveAll | Call::Clone) {
+            self.ask()?;
+            return Ok(());
+        }
+        match self.given.take() {
+            Some((key, value)) => self.give(key, value),
+            None => Err(Error::NotUtf8),
+        }
+    }
 }
 
 /// The pairs that each call is made on.
@@ -84,116 +119,69 @@ const ROWS: [(Call, &'static str, &'static str); 6] = [
     (Call::Clone, "k", PAIRS),
 ];
 
-// Whether a refusal hands back what the call was given, where the call hands back.
-fn is_refusal_of(call: Call, key: &str, refusal: &Refusal) -> bool {
-    match refusal {
-        Refusal::HandedBack(refused) => {
-            refused.key.as_str() == key && refused.value.as_str() == "v"
-        }
-        Refusal::Told => matches!(call, Call::MakeIndex | Call::RemoveAll | Call::Clone),
-    }
+// Makes the call with more and more memory until it has enough and leaves these pairs, and answers how often
+// it was refused.
+fn grow(rt: &(impl Abort + AllocGlobal), growth: &mut Growth<'_>, call: Call, want: &str) -> usize {
+    growth.call = call;
+    let refused = refusals(rt, want, 1, growth);
+    expect(rt, growth.has(want), want, refused);
+    refused
 }
 
-// Makes the call with so much memory. Whether it was enough; refused, it tells that.
-fn is_made(
-    rt: &(impl Abort + AllocGlobal),
-    famine: &mut Famine,
-    steps: usize,
-    (call, key): (Call, &str),
-    map: &mut Map,
-) -> bool {
-    let (given, value) = (text(rt, key), text(rt, "v"));
-    let rest = famine.leave(rt, steps);
-    let answer = call.make(map, given, value);
-    drop(rest);
-    match answer {
-        Ok(()) => true,
-        Err(refusal) => {
-            assert!(rt; is_refusal_of(call, key, &refusal), "{call:?}");
-            false
-        }
-    }
-}
-
-// Appends the pairs.
-fn pairs(rt: &(impl Abort + AllocGlobal)) -> Map {
+// The pairs that each call is made on.
+fn few<'a>(rt: &(impl Abort + AllocGlobal), key: &'a str) -> Growth<'a> {
     let mut map: Map = Multimap::new(rt.alloc());
     for (key, value) in [("k", "1"), ("k", "2"), ("a", "3"), ("b", "4")] {
         assert!(rt; map.append(text(rt, key), text(rt, value)).is_ok());
     }
-    map
-}
-
-// Makes the call with more and more memory until it has enough, and answers how often it was refused and
-// the multimap kept these pairs.
-fn grow(
-    rt: &(impl Abort + AllocGlobal),
-    (call, key): (Call, &str),
-    map: &mut Map,
-    kept: &str,
-) -> usize {
-    let mut famine = Famine::new(rt);
-    for steps in 0..CALLS {
-        if is_made(rt, &mut famine, steps, (call, key), map) {
-            return steps;
-        }
-        expect_pairs(rt, call, map, kept);
+    Growth {
+        call: Call::Append,
+        key,
+        map,
+        pairs: PAIRS,
+        given: None,
     }
-    panic!(rt; "{call:?}: never enough")
-}
-
-/// Asks that the call, with enough memory, does so, and answers how often it was refused before.
-fn expect_growth(rt: &(impl Abort + AllocGlobal), (call, key, want): (Call, &str, &str)) -> usize {
-    let mut map = pairs(rt);
-    let refused = grow(rt, (call, key), &mut map, PAIRS);
-    expect_pairs(rt, call, &map, want);
-    refused
 }
 
 #[test]
 fn each_request_of_a_multimap_is_refused(rt: HostRuntime) {
     let mut refused: usize = 0;
-    for row in ROWS {
-        refused = refused.saturating_add(expect_growth(&rt, row));
+    for (call, key, want) in ROWS {
+        refused = refused.saturating_add(grow(&rt, &mut few(&rt, key), call, want));
     }
     assert!(rt; refused > ROWS.len());
 }
 
 /// How many pairs there are without an index.
-const MANY: usize = 40;
+const MANY: u32 = 40;
 
-// So many pairs without an index, each of a number and `v`, and how they are shown.
-fn many(rt: &(impl Abort + AllocGlobal)) -> (Map, String) {
+// So many pairs without an index, each of a number and `v`, which are shown so.
+fn many<'a>(rt: &(impl Abort + AllocGlobal), pairs: &'a str) -> Growth<'a> {
     let mut map: Map = Multimap::new(rt.alloc());
-    let mut shown = String::new(rt.alloc());
     for number in 0..MANY {
-        let key = format!(in rt.alloc(); "{number}").expect(rt, "memory");
-        assert!(rt; write!(shown, "<{number}|v>").is_ok());
+        let key = numbered(rt, "@", number, 1);
         assert!(rt; map.append_unindexed(key, text(rt, "v")).is_ok());
     }
-    (map, shown)
+    Growth {
+        call: Call::Append,
+        key: "k",
+        map,
+        pairs,
+        given: None,
+    }
 }
 
 // An index of so many pairs has eight bytes of links for each, of which sixteen more are given each time.
 #[test]
 fn each_request_of_an_index_is_refused(rt: HostRuntime) {
-    let (mut map, mut shown) = many(&rt);
-    let refused = grow(&rt, (Call::MakeIndex, "k"), &mut map, shown.as_str());
-    assert!(rt; refused >= MANY / 2, "{refused}");
-    expect_pairs(&rt, Call::MakeIndex, &map, shown.as_str());
-    let again = grow(&rt, (Call::MakeIndex, "k"), &mut map, shown.as_str());
-    assert!(rt; again == 0, "{again}");
-    grow(&rt, (Call::AppendUnindexed, "k"), &mut map, shown.as_str());
-    assert!(rt; shown.push_str("<k|v>").is_ok());
-    expect_pairs(&rt, Call::AppendUnindexed, &map, shown.as_str());
-}
-
-#[test]
-fn each_request_of_an_append_that_makes_an_index_is_refused(rt: HostRuntime) {
-    let (mut map, mut shown) = many(&rt);
-    let refused = grow(&rt, (Call::Append, "k"), &mut map, shown.as_str());
-    assert!(rt; refused >= MANY / 2, "{refused}");
-    assert!(rt; shown.push_str("<k|v>").is_ok());
-    expect_pairs(&rt, Call::Append, &map, shown.as_str());
+    let pairs = numbered(&rt, "<@|v>", 0, MANY);
+    let more = joined(&rt, &[pairs.as_str(), "<k|v>"]);
+    let mut growth = many(&rt, &pairs);
+    assert!(rt; grow(&rt, &mut growth, Call::MakeIndex, &pairs) >= 20);
+    assert!(rt; grow(&rt, &mut growth, Call::MakeIndex, &pairs) == 0);
+    grow(&rt, &mut growth, Call::AppendUnindexed, &more);
+    let mut growth = many(&rt, &pairs);
+    assert!(rt; grow(&rt, &mut growth, Call::Append, &more) >= 20);
+    let map = growth.map;
     assert!(rt; map.get("k").is_some() && map.get("7").is_some() && map.get("40").is_none());
 }

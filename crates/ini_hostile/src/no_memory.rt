@@ -1,15 +1,15 @@
 //! The calls that take no memory, each made where not one byte is left, and again where one block is free:
 //! it is whole afterwards, so none of them asked for memory and passed the refusal over.
 use crate::scarce::{FREE, Famine};
-use crate::show::{expect_shown, loaded, text};
+use crate::show::{expect_shown, joined, loaded, numbered, text};
 use ini::{
     Error, EscapePolicy, Ini, ParseKind, ParseOption, Properties, SectionEntry, Watched,
     WriteOption, write_escaped, write_raw,
 };
 use ini_multimap::Multimap;
 use ini_text::Parser;
+use ini_view::View;
 use std::alloc::Global;
-use std::fmt::Write;
 use std::panic::Expect;
 use std::process::Abort;
 
@@ -25,42 +25,33 @@ fn a_request_is_noticed(rt: HostRuntime) {
     for size in [1, 1000] {
         famine.leave_blocks(&rt, 1);
         assert!(rt; Vec::<u8>::with_capacity(rt.alloc(), size).is_ok());
-        assert!(rt; !famine.is_whole(), "{size}");
+        assert!(rt; !famine.is_whole());
     }
 }
 
-// `len`, `is_empty`, `section`, `get_from`, `get_from_or`.
+// `len`, `is_empty`, `section`, `get_from`, `get_from_or`, `section_all`, `sections`, `iter`, a walk.
 fn is_looked_up(document: &Ini) -> bool {
     let counted = document.len() == 3 && !document.is_empty();
-    let found = match document.section(P) {
-        Some(section) => section.len() == 2,
-        None => false,
-    };
+    let listed = document.section_all(P).count() == 2 && document.sections().count() == 3;
     let there = document.get_from(P, "k") == Some("1");
-    counted && found && there && document.get_from_or(P, "z", "d") == "d"
-}
-
-// `section_all`, `sections`, `iter`.
-fn is_walked(document: &Ini) -> bool {
-    let counted = document.section_all(P).count() == 2 && document.sections().count() == 3;
-    let mut as_expected = counted && document.iter().size_hint() == (4, Some(4));
+    let mut as_expected = counted && listed && document.iter().size_hint() == (4, Some(4));
+    match document.section(P) {
+        Some(section) => as_expected = as_expected && section.len() == 2,
+        None => return false,
+    }
     for (name, section) in document {
         as_expected = as_expected && section.is_empty() == (name == Some("q"));
     }
-    as_expected
+    as_expected && there && document.get_from_or(P, "z", "d") == "d"
 }
 
-// `section_mut`, `get_from_mut`, `section_all_mut`, `iter_mut`.
+// `section_mut`, `get_from_mut`, `section_all_mut`, `iter_mut`, and a walk for writing over all values.
 fn is_looked_up_for_writing(document: &mut Ini) -> bool {
     let section = document.section_mut(P).is_some();
     let value = document.get_from_mut(P, "k").is_some();
     let counted = document.section_all_mut(P).count() == 2;
-    section && value && counted && document.iter_mut().size_hint() == (4, Some(4))
-}
-
-// A walk for writing over all values.
-fn is_walked_for_writing(document: &mut Ini) -> bool {
-    let mut as_expected = true;
+    let walked = document.iter_mut().size_hint() == (4, Some(4));
+    let mut as_expected = section && value && counted && walked;
     for (_, section) in document {
         for (_, value) in section {
             as_expected = as_expected && !value.is_empty();
@@ -79,67 +70,54 @@ fn is_walked_by_value(document: Ini) -> bool {
     as_expected
 }
 
-#[test]
-fn look_ups_and_walks_of_documents(rt: HostRuntime) {
-    for free in FREE {
-        let mut document = loaded(&rt, TEXT);
-        let mut famine = Famine::leaving(&rt, free);
-        famine.expect(&rt, is_looked_up(&document), "look-ups");
-        famine.expect(&rt, is_walked(&document), "walks");
-        let plain = document.is_plain(&WriteOption::default(), ParseOption::default());
-        famine.expect(&rt, plain, "is_plain");
-        let found = is_looked_up_for_writing(&mut document);
-        famine.expect(&rt, found, "look-ups for writing");
-        famine.expect(
-            &rt,
-            is_walked_for_writing(&mut document),
-            "walks for writing",
-        );
-        famine.expect(&rt, is_walked_by_value(document), "walks by value");
-    }
-}
-
 // Setters that look up.
-fn is_got(document: &mut Ini) -> bool {
-    let got = document.with_section(P).get("j") == Some("v");
+fn is_got(document: &mut Ini, want: &str) -> bool {
+    let got = document.with_section(P).get("j") == Some(want);
     got && document.with_general_section().get("g") == Some("0")
 }
 
+/// How an entry is used: by `or_insert`, `or_insert_with`, `into_mut`.
+const USES: [&'static str; 3] = ["or_insert", "or_insert_with", "into_mut"];
+
+// Opens no section where one of the name is there.
+fn is_entered(alloc: Global, document: &mut Ini, name: String, way: &str) -> bool {
+    let answer = match document.entry(Some(name)) {
+        entry if way == "or_insert" => entry.or_insert(Properties::new(alloc)),
+        entry if way == "or_insert_with" => entry.or_insert_with(move || Properties::new(alloc)),
+        SectionEntry::Occupied(entry) => Ok(entry.into_mut()),
+        SectionEntry::Vacant(_) => return false,
+    };
+    match answer {
+        Ok(section) => section.len() == 2,
+        Err(_refused) => false,
+    }
+}
+
 #[test]
-fn replacements_and_removals(rt: HostRuntime) {
+fn look_ups_walks_and_entries_of_documents(rt: HostRuntime) {
     for free in FREE {
         let mut document = loaded(&rt, TEXT);
-        let (key, value) = (text(&rt, "j"), text(&rt, "v"));
+        let names = [text(&rt, "p"), text(&rt, "p"), text(&rt, "p")];
         let mut famine = Famine::leaving(&rt, free);
-        let set = document.set_to(P, key, value).is_ok();
-        famine.expect(&rt, set, "set_to of a key that is there");
+        let plain = document.is_plain(&WriteOption::default(), ParseOption::default());
+        let found = plain && is_looked_up(&document);
+        let found = found && is_looked_up_for_writing(&mut document);
         famine.expect(
             &rt,
-            is_got(&mut document),
-            "with_section, with_general_section, get",
+            found && is_got(&mut document, "3"),
+            "look-ups and walks",
         );
-        let _ = document.with_section(P).delete("k");
-        famine.expect(&rt, true, "delete of a setter");
-        let deleted = document.delete_from(P, "k").is_some();
-        famine.expect(&rt, deleted, "delete_from");
-        let deleted = document.delete(P).is_some();
-        famine.expect(&rt, deleted, "delete");
-        drop(famine);
-        expect_shown(&rt, "delete", &document, "general: <g|0> [q]: [p]: ");
-        let mut famine = Famine::leaving(&rt, free);
-        document.clear();
-        famine.expect(&rt, document.is_empty(), "clear");
+        for (name, way) in names.into_iter().zip(USES) {
+            famine.expect(&rt, is_entered(rt.alloc(), &mut document, name, way), way);
+        }
+        famine.expect(&rt, is_walked_by_value(document), "walks by value");
     }
 }
 
 // A section p of 40 pairs, which are more than those that have no index.
 fn many_pairs(rt: &(impl Abort + AllocGlobal)) -> Ini {
-    let mut text = String::new(rt.alloc());
-    assert!(rt; text.push_str("[p]\n").is_ok());
-    for number in 10..50u32 {
-        assert!(rt; write!(text, "{number}=v\n").is_ok());
-    }
-    loaded(rt, &text)
+    let pairs = numbered(rt, "@=v\n", 10, 40);
+    loaded(rt, &joined(rt, &["[p]\n", pairs.as_str()]))
 }
 
 /// The keys of those pairs that are taken out, so that holes are closed.
@@ -159,53 +137,39 @@ fn is_deleted(document: &mut Ini) -> bool {
     as_expected
 }
 
+// Takes all out: `delete` of a section, `clear`.
+fn expect_cleared(rt: &(impl Abort + AllocGlobal), famine: &mut Famine, mut document: Ini) {
+    famine.expect(rt, document.delete(P).is_some(), "delete of a section");
+    document.clear();
+    famine.expect(rt, document.is_empty(), "clear");
+}
+
 #[test]
-fn removals_of_many_pairs(rt: HostRuntime) {
+fn replacements_and_removals(rt: HostRuntime) {
     for free in FREE {
-        let mut document = many_pairs(&rt);
+        let (mut document, mut many) = (loaded(&rt, TEXT), many_pairs(&rt));
+        let (key, value) = (text(&rt, "j"), text(&rt, "v"));
         let mut famine = Famine::leaving(&rt, free);
-        famine.expect(&rt, is_deleted(&mut document), "delete_from, delete");
+        let set = document.set_to(P, key, value).is_ok();
+        famine.expect(&rt, set, "set_to of a key that is there");
+        famine.expect(&rt, is_got(&mut document, "v"), "get of a setter");
+        let _ = document.with_section(P).delete("k");
+        famine.expect(&rt, true, "delete of a setter");
+        let deleted = document.delete_from(P, "k").is_some();
+        famine.expect(&rt, deleted, "delete_from");
+        famine.expect(
+            &rt,
+            is_deleted(&mut many),
+            "delete_from, delete of many pairs",
+        );
+        expect_cleared(&rt, &mut famine, many);
         let deleted = document.delete(P).is_some();
-        famine.expect(&rt, deleted, "delete of a section");
-        document.clear();
-        famine.expect(&rt, document.is_empty(), "clear");
-    }
-}
-
-// Opens no section where one of the name is there.
-fn is_or_inserted(alloc: Global, document: &mut Ini, name: String) -> bool {
-    match document.entry(Some(name)).or_insert(Properties::new(alloc)) {
-        Ok(section) => section.len() == 2,
-        Err(_refused) => false,
-    }
-}
-
-fn is_or_inserted_with(alloc: Global, document: &mut Ini, name: String) -> bool {
-    let entry = document.entry(Some(name));
-    match entry.or_insert_with(move || Properties::new(alloc)) {
-        Ok(section) => section.len() == 2,
-        Err(_refused) => false,
-    }
-}
-
-fn is_into_mut(document: &mut Ini, name: String) -> bool {
-    match document.entry(Some(name)) {
-        SectionEntry::Occupied(entry) => entry.into_mut().len() == 2,
-        SectionEntry::Vacant(_) => false,
-    }
-}
-
-#[test]
-fn occupied_entries(rt: HostRuntime) {
-    for free in FREE {
-        let mut document = loaded(&rt, TEXT);
-        let (first, second, third) = (text(&rt, "p"), text(&rt, "p"), text(&rt, "p"));
+        famine.expect(&rt, deleted, "delete");
+        drop(famine);
+        expect_shown(&rt, &document, "general: <g|0> [q]: [p]: ");
         let mut famine = Famine::leaving(&rt, free);
-        let found = is_or_inserted(rt.alloc(), &mut document, first);
-        famine.expect(&rt, found, "or_insert");
-        let found = is_or_inserted_with(rt.alloc(), &mut document, second);
-        famine.expect(&rt, found, "or_insert_with");
-        famine.expect(&rt, is_into_mut(&mut document, third), "into_mut");
+        document.clear();
+        famine.expect(&rt, document.is_empty(), "clear of sections");
     }
 }
 
@@ -235,14 +199,9 @@ fn calls_of_properties(rt: HostRuntime) {
     for free in FREE {
         let (mut pairs, same) = (peer(&rt), peer(&rt));
         let mut famine = Famine::leaving(&rt, free);
-        famine.expect(&rt, Properties::new(rt.alloc()).is_empty(), "new");
-        famine.expect(
-            &rt,
-            are_pairs_looked_up(&pairs, &same),
-            "look-ups of properties",
-        );
+        let found = Properties::new(rt.alloc()).is_empty() && are_pairs_looked_up(&pairs, &same);
         let walked = pairs.iter_mut().size_hint() == (3, Some(3));
-        famine.expect(&rt, walked, "iter_mut");
+        famine.expect(&rt, found && walked, "new, look-ups, iter_mut");
         let none = is_none_removed(&mut pairs);
         famine.expect(&rt, none, "remove_all of a key that isn't there");
         let removed = pairs.remove("k").is_some();
@@ -284,22 +243,6 @@ fn are_texts_lent(map: &mut Map) -> bool {
     first && second && last && all && map.iter_mut().size_hint() == (3, Some(3))
 }
 
-#[test]
-fn look_ups_of_a_multimap(rt: HostRuntime) {
-    for free in FREE {
-        let mut map = texts(&rt);
-        let mut famine = Famine::leaving(&rt, free);
-        famine.expect(&rt, are_texts_looked_up(&map), "look-ups of a multimap");
-        famine.expect(
-            &rt,
-            are_texts_lent(&mut map),
-            "look-ups of a multimap for writing",
-        );
-        let walked = map.into_iter().size_hint() == (3, Some(3));
-        famine.expect(&rt, walked, "into_iter");
-    }
-}
-
 // Removals: `remove_all` of a key that isn't there, `remove`.
 fn is_one_left(map: &mut Map) -> bool {
     let none = map.remove_all("z").is_ok();
@@ -308,22 +251,25 @@ fn is_one_left(map: &mut Map) -> bool {
 }
 
 #[test]
-fn edits_of_a_multimap(rt: HostRuntime) {
+fn calls_of_a_multimap(rt: HostRuntime) {
     for free in FREE {
-        let mut map = texts(&rt);
+        let (mut map, other) = (texts(&rt), texts(&rt));
         let (key, value) = (text(&rt, "k"), text(&rt, "v"));
         let mut famine = Famine::leaving(&rt, free);
         let none: Map = Multimap::new(rt.alloc());
-        famine.expect(&rt, none.is_empty(), "new");
+        let found = none.is_empty() && are_texts_looked_up(&map) && are_texts_lent(&mut map);
+        famine.expect(&rt, found, "new, look-ups, look-ups for writing");
         let inserted = map.insert(key, value).is_ok();
         famine.expect(&rt, inserted, "insert of a key that is there");
         famine.expect(&rt, is_one_left(&mut map), "remove_all, remove");
         map.clear();
         famine.expect(&rt, map.is_empty(), "clear");
+        let walked = other.into_iter().size_hint() == (3, Some(3));
+        famine.expect(&rt, walked, "into_iter");
     }
 }
 
-// Writes the document by each form.
+// Writes the document by each form, and texts, one escaped and one as it is.
 fn is_written(document: &Ini, writer: &mut &mut [u8]) -> bool {
     let policy = EscapePolicy::Everything;
     let written = document.write_to(writer).is_ok();
@@ -331,17 +277,10 @@ fn is_written(document: &Ini, writer: &mut &mut [u8]) -> bool {
     let by_option = document
         .write_to_opt(writer, WriteOption::default())
         .is_ok();
-    let watched = document
-        .write_watched(&mut Watched::new(writer), WriteOption::default())
-        .is_ok();
-    written && by_policy && by_option && watched
-}
-
-// Writes texts, one escaped and one as it is.
-fn are_texts_written(writer: &mut &mut [u8]) -> bool {
-    let policy = EscapePolicy::Everything;
+    let watched = document.write_watched(&mut Watched::new(writer), WriteOption::default());
     let escaped = write_escaped("\u{e9}", policy, &mut Watched::new(writer)).is_ok();
-    escaped && write_raw("!", &mut Watched::new(writer)).is_ok()
+    let raw = write_raw("!", &mut Watched::new(writer)).is_ok();
+    written && by_policy && by_option && watched.is_ok() && escaped && raw
 }
 
 #[test]
@@ -351,12 +290,7 @@ fn writing(rt: HostRuntime) {
         let mut famine = Famine::leaving(&rt, free);
         let mut place = [0u8; 64];
         let mut writer: &mut [u8] = &mut place;
-        famine.expect(
-            &rt,
-            is_written(&document, &mut writer),
-            "writing a document",
-        );
-        famine.expect(&rt, are_texts_written(&mut writer), "writing texts");
+        famine.expect(&rt, is_written(&document, &mut writer), "writing");
         let want = "k=é\nk=\\x00e9\nk=é\nk=é\n\\x00e9!";
         assert!(rt; place.starts_with(want.as_bytes()), "what was written");
     }
@@ -377,9 +311,43 @@ fn refusals_of_a_text(rt: HostRuntime) {
     for free in FREE {
         let mut famine = Famine::leaving(&rt, free);
         let mut parser = Parser::new(rt.alloc(), "\u{B}#", ParseOption::default());
-        famine.expect(&rt, true, "Parser::new");
+        let mut refused = true;
         for _ in 0..3 {
-            famine.expect(&rt, is_refused(&mut parser), "next_item of a refused text");
+            refused = is_refused(&mut parser) && refused;
         }
+        famine.expect(&rt, refused, "Parser::new, next_item of a refused text");
+    }
+}
+
+/// The text of a view that the calls are made on.
+const VIEWED: &'static str = "g=0\n[p]\nk=1\nk=\"2\"\nj=3\n[q]\n[p]\nk=4\n";
+
+// `len`, `is_empty`, `section`, `get_from`, `get_from_or`, `sections`, `iter`; of each section `is_empty`,
+// `get_all`, `iter`.
+fn is_view_looked_up(view: &View<'_>) -> bool {
+    let counted = view.len() == 3 && !view.is_empty() && view.sections().count() == 3;
+    let there = view.get_from(P, "k") == Some("1") && view.get_from_or(P, "z", "d") == "d";
+    let mut as_expected = counted && there && view.iter().size_hint() == (4, Some(4));
+    match view.section(P) {
+        Some(section) => {
+            as_expected = as_expected && section.len() == 2 && section.contains_key("j");
+        }
+        None => return false,
+    }
+    for (name, section) in view {
+        as_expected = as_expected && section.is_empty() == (name == Some("q"));
+        for (key, value) in section {
+            as_expected = as_expected && section.get_all(key).count() > 0 && !value.is_empty();
+        }
+    }
+    as_expected
+}
+
+#[test]
+fn look_ups_and_walks_of_views(rt: HostRuntime) {
+    for free in FREE {
+        let view = View::load_from_str(rt.alloc(), VIEWED).expect(&rt, "a view");
+        let mut famine = Famine::leaving(&rt, free);
+        famine.expect(&rt, is_view_looked_up(&view), "look-ups and walks of views");
     }
 }

@@ -1,8 +1,10 @@
-//! Each request for memory of an edit of a text in pieces refused in turn: refused, the edit tells that and the
-//! text stays; else it is made.
-use crate::scarce::{CALLS, Famine};
-use ini::{EscapePolicy, ParseOption, WriteOption};
+//! Each request for memory of an edit of a text in pieces refused in turn, of changes made in it, and of a
+//! three-way merge: refused, the edit tells that and the text stays; else it is made.
+use crate::scarce::{Attempt, refusals};
+use crate::show::loaded;
+use ini::{EscapePolicy, Ini, ParseOption, WriteOption};
 use ini_edit::{Edit, EditError, LaterPairs, Source};
+use ini_layers::{Side, apply, diff, merge};
 use ini_text::Error;
 use std::alloc::Global;
 use std::panic::Expect;
@@ -71,13 +73,14 @@ const LIST: [Edit<'static>; 2] = [
     },
 ];
 
-// A list of edits; its refusals are told with an index, of which nothing is asked here.
-fn make_list(alloc: Global, source: &mut Source<'_>) -> Result<bool, EditError> {
-    match source.make_edits(alloc, &WriteOption::default(), LaterPairs::Left, &LIST) {
-        Ok(_) => Ok(true),
-        Err(refused) => Err(refused.refusal),
-    }
-}
+const BASE: &str = "[a]\nk=1\nl=0\n";
+
+const OURS: &str = "[a]\nk=2\n[b]\nj=1\n";
+
+const THEIRS: &str = "; c\n[a]\nk = 3\nl=0\ni=4\n";
+
+/// What changes from the base to ours, and a merge of both, make of theirs.
+const MADE: &str = "; c\n[a]\nk = 2\ni=4\n\n[b]\nj=1\n";
 
 fn make_of_section(alloc: Global, source: &mut Source<'_>, edit: &str) -> Result<bool, EditError> {
     let write = WriteOption::default();
@@ -87,7 +90,11 @@ fn make_of_section(alloc: Global, source: &mut Source<'_>, edit: &str) -> Result
         "add_section" => source.add_section(alloc, &write, "new"),
         "set_comment" => source.set_comment(alloc, &write, Some("a"), "k", "# new\n"),
         "comment_out" => source.comment_out(alloc, Some("a"), "k"),
-        _ => make_list(alloc, source),
+        // its refusals are told with an index, of which nothing is asked here
+        _ => match source.make_edits(alloc, &write, LaterPairs::Left, &LIST) {
+            Ok(_) => Ok(true),
+            Err(refused) => Err(refused.refusal),
+        },
     }
 }
 
@@ -114,54 +121,101 @@ fn make(alloc: Global, source: &mut Source<'_>, edit: &str) -> Result<bool, Edit
     }
 }
 
-// Makes the edit with so much memory: whether it was enough. Refused, it tells that.
-fn is_made(
-    rt: &(impl Abort + AllocGlobal),
-    famine: &mut Famine,
-    steps: usize,
-    source: &mut Source<'_>,
+// Makes the changes, or merges the documents.
+fn make_merge<'a>(
+    alloc: Global,
+    theirs: &Source<'a>,
     edit: &str,
-) -> bool {
-    let rest = famine.leave(rt, steps);
-    let answer = make(rt.alloc(), source, edit);
-    drop(rest);
+    (base, ours): (&Ini, &Ini),
+) -> Result<Source<'a>, EditError> {
+    let write = WriteOption::default();
+    let answer = if edit == "apply" {
+        let changes = diff(alloc, base, ours)?;
+        apply(alloc, &write, changes.as_slice(), theirs)
+    } else {
+        merge(alloc, &write, base, ours, theirs, Side::Ours)
+    };
     match answer {
-        Ok(found) => {
-            assert!(rt; found, "{edit}");
-            true
+        Ok(new) => Ok(new),
+        Err(refused) => Err(refused.refusal),
+    }
+}
+
+/// An edit of a text in pieces, and what a merge has made of it.
+#[derive(Drop)]
+struct Editing<'a> {
+    edit: &'a str,
+    text: &'a str,
+    source: Source<'a>,
+    merges: bool,
+    merged: Option<String>,
+    base: Ini,
+    ours: Ini,
+}
+
+impl Editing<'_> {
+    // Whether what was merged, or else the pieces, are this text.
+    fn is_text(&self, alloc: Global, want: &str) -> bool {
+        if let Some(text) = &self.merged {
+            return text.as_str() == want;
         }
-        Err(refusal) => {
-            assert!(rt;
-                matches!(refusal, EditError::Text(Error::Memory(_))),
-                "{edit}"
-            );
-            false
+        match self.source.to_text(alloc) {
+            Ok(text) => text.as_str() == want,
+            Err(_) => false,
+        }
+    }
+
+    // Makes the edit. Whether its pair or section was found.
+    fn found(&mut self, alloc: Global) -> Result<bool, EditError> {
+        if !self.merges {
+            return make(alloc, &mut self.source, self.edit);
+        }
+        match make_merge(alloc, &self.source, self.edit, (&self.base, &self.ours)) {
+            Ok(new) => {
+                self.merged = Some(new.to_text(alloc)?);
+                Ok(true)
+            }
+            Err(refused) => Err(refused),
         }
     }
 }
 
-fn expect_text(rt: &(impl Abort + AllocGlobal), source: &Source<'_>, edit: &str, want: &str) {
-    let text = source.to_text(rt.alloc()).expect(rt, "memory");
-    assert!(rt; text.as_str() == want, "{edit}: {text:?}");
+impl Attempt for Editing<'_> {
+    fn is_ready(&mut self, alloc: Global) -> bool {
+        self.is_text(alloc, self.text)
+    }
+
+    fn make(&mut self, alloc: Global) -> Result<(), Error> {
+        match self.found(alloc) {
+            Ok(true) => Ok(()),
+            Err(EditError::Text(refused)) => Err(refused),
+            _ => Err(Error::NotUtf8),
+        }
+    }
 }
 
-// How often the edit was refused, before it had enough memory.
-fn refusals(rt: &(impl Abort + AllocGlobal), edit: &str, want: &str) -> usize {
-    let mut famine = Famine::new(rt);
-    let mut source = Source::read(rt.alloc(), TEXT, ParseOption::default()).expect(rt, "memory");
-    for steps in 0..CALLS {
-        if is_made(rt, &mut famine, steps, &mut source, edit) {
-            expect_text(rt, &source, edit, want);
-            return steps;
-        }
-        expect_text(rt, &source, edit, TEXT);
-    }
-    panic!(rt; "{edit}: never enough")
+/// Asks that the edit makes this of the text, where each request for memory is refused before.
+fn expect_edit(rt: &(impl Abort + AllocGlobal), edit: &str, text: &str, want: &str) {
+    let read = ParseOption::default();
+    let mut editing = Editing {
+        edit,
+        text,
+        source: Source::read(rt.alloc(), text, read).expect(rt, "memory"),
+        merges: text == THEIRS,
+        merged: None,
+        base: loaded(rt, BASE),
+        ours: loaded(rt, OURS),
+    };
+    let refused = refusals(rt, edit, 1, &mut editing);
+    assert!(rt; refused > 0 && editing.is_text(rt.alloc(), want), "{edit}");
 }
 
 #[test]
 fn each_request_of_an_edit_in_pieces_is_refused(rt: HostRuntime) {
     for (edit, want) in ROWS {
-        assert!(&rt; refusals(&rt, edit, want) > 0, "{edit}");
+        expect_edit(&rt, edit, TEXT, want);
+    }
+    for edit in ["apply", "merge"] {
+        expect_edit(&rt, edit, THEIRS, MADE);
     }
 }

@@ -1,13 +1,14 @@
 //! Watched devices that fail, are full or end: what is reported and counted, what they took, and how often
 //! they are called.
-use crate::devices::{LimitedWriter, Limits, StepReader, WRITE_FAULTS, is_counted};
+use crate::devices::{LimitedWriter, Limits, StepReader, is_quiet};
+use crate::show::expect;
 use ini_text::{Error, EscapePolicy, Watched, write_escaped, write_raw};
 use std::alloc::Global;
 use std::io::ErrorKind;
 use std::process::Abort;
 
 // Whether the answer is this fault.
-fn is_fault<T: Drop>(answer: Result<T, Error>, kind: ErrorKind) -> bool {
+fn is_fault(answer: Result<usize, Error>, kind: ErrorKind) -> bool {
     match answer {
         Err(Error::Io(fault)) => fault.kind() == kind,
         _ => false,
@@ -26,24 +27,9 @@ fn is_read_up_to(kind: ErrorKind) -> bool {
     if !matches!(input.read(&mut piece), Ok(1)) || piece != [b'c', b'b'] {
         return false;
     }
-    let none = (input.failures(), input.stalls()) == (0, 0);
+    let none = is_quiet(&input);
     let reported = is_fault(input.read(&mut piece), kind);
     none && reported && (input.failures(), input.stalls()) == (1, 0)
-}
-
-// Whether the end of a device is reported as such.
-fn is_read_at_the_end() -> bool {
-    let mut ended: &[u8] = b"";
-    let mut input = Watched::new(&mut ended);
-    matches!(input.read(&mut [0u8; 2]), Ok(0)) && input.failures() == 0
-}
-
-#[test]
-fn reads_up_to_the_fault(rt: HostRuntime) {
-    for kind in [ErrorKind::Other, ErrorKind::Interrupted] {
-        assert!(rt; is_read_up_to(kind), "{kind:?}");
-    }
-    assert!(rt; is_read_at_the_end());
 }
 
 // Whether a reader whose first call fails, and no other, is called once, and the fault reported and counted.
@@ -55,97 +41,67 @@ fn is_read_once(kind: ErrorKind) -> bool {
     reported && counted && device.calls == 1
 }
 
-// The same of a writer.
-fn is_written_once(alloc: Global, kind: ErrorKind) -> bool {
-    let limits = Limits {
-        room: 0,
-        fault: Some(kind),
-        ..Limits::NONE
-    };
-    let mut device = LimitedWriter::new(alloc, limits);
-    let mut out = Watched::new(&mut device);
-    let reported = is_fault(write_raw("ab", &mut out), kind);
-    let counted = (out.failures(), out.stalls()) == (1, 0);
-    reported && counted && device.has_taken("", 1)
+// Whether a piece without room takes nothing and counts nothing, and one with room then takes all bytes.
+fn is_read_by_pieces(bytes: &[u8]) -> bool {
+    let mut device = StepReader::new(bytes, 1);
+    let mut input = Watched::new(&mut device);
+    let none = matches!(input.read(&mut []), Ok(0));
+    if !none || !is_quiet(&input) {
+        return false;
+    }
+    let mut piece = [0u8; 2];
+    let all = matches!(input.read(&mut piece), Ok(count) if count == bytes.len());
+    all && is_quiet(&input)
 }
 
+// A device at its end answers no bytes.
 #[test]
-fn a_device_that_failed_is_not_called_again(rt: HostRuntime) {
+fn reads_go_up_to_the_fault_or_the_end(rt: HostRuntime) {
     for kind in [ErrorKind::Other, ErrorKind::Interrupted] {
-        assert!(rt; is_read_once(kind), "read: {kind:?}");
-        assert!(rt; is_written_once(rt.alloc(), kind), "written: {kind:?}");
+        assert!(rt; is_read_up_to(kind) && is_read_once(kind), "a fault");
     }
+    assert!(rt;
+        is_read_by_pieces(b"k") && is_read_by_pieces(b""),
+        "the end"
+    );
 }
 
-/// A text, and as it goes out.
-const TEXT: &'static str = "[a]\né=\\";
+// So many times this character or escape, the run, and so many times the character or escape again.
+fn ended(
+    alloc: Global,
+    run: &str,
+    end: &str,
+    (front, back): (usize, usize),
+) -> Result<String, Error> {
+    let (front, back) = (end.repeat(alloc, front)?, end.repeat(alloc, back)?);
+    Ok([front.as_str(), run, back.as_str()].join(alloc, "")?)
+}
 
-const ESCAPED: &'static str = r"[a]\n\x00e9=\\";
-
-// Whether a writer takes as many bytes of the text as it has room for, as it is or escaped, and what stopped
-// it is reported and counted.
-fn has_front(alloc: Global, limits: Limits, as_it_is: bool) -> bool {
-    let mut device = LimitedWriter::new(alloc, limits);
-    let mut out = Watched::new(&mut device);
-    let answer = if as_it_is {
-        write_raw(ESCAPED, &mut out)
+// How often a device is called for so many times this run, with so many escapes at its ends, where it takes
+// the escaped text.
+fn calls_for(
+    alloc: Global,
+    run: &str,
+    count: usize,
+    escapes: (usize, usize),
+) -> Result<usize, Error> {
+    let run = run.repeat(alloc, count)?;
+    let text = ended(alloc, &run, "\x1B", escapes)?;
+    let want = ended(alloc, &run, r"\x001b", escapes)?;
+    let mut device = LimitedWriter::new(alloc, Limits::NONE);
+    write_escaped(
+        text.as_str(),
+        EscapePolicy::Basics,
+        &mut Watched::new(&mut device),
+    )?;
+    if device.has_taken(&want, device.calls) {
+        Ok(device.calls)
     } else {
-        write_escaped(TEXT, EscapePolicy::BasicsUnicode, &mut out)
-    };
-    let counted = is_counted(&out, &answer);
-    counted && limits.is_reported(&answer, ESCAPED) && device.has_front_of(ESCAPED)
-}
-
-#[test]
-fn a_device_takes_what_it_has_room_for(rt: HostRuntime) {
-    for room in 0..=ESCAPED.len() {
-        for fault in WRITE_FAULTS {
-            for as_it_is in [true, false] {
-                let limits = Limits {
-                    room,
-                    fault,
-                    ..Limits::NONE
-                };
-                limits.expect(&rt, as_it_is, has_front(rt.alloc(), limits, as_it_is));
-            }
-        }
+        Err(Error::NotUtf8)
     }
 }
 
-// How often a device is called for a text with escapes at its end, and whether it took the escaped text.
-fn calls_for_runs_and_escapes(alloc: Global) -> Result<(usize, bool), Error> {
-    let mut text = "plain é 字 ".repeat(alloc, 4000)?;
-    let mut escaped = text.clone()?;
-    text.push_str("\x1B".repeat(alloc, 25)?.as_str())?;
-    escaped.push_str(r"\x001b".repeat(alloc, 25)?.as_str())?;
-    let mut device = LimitedWriter::new(alloc, Limits::NONE);
-    write_escaped(
-        text.as_str(),
-        EscapePolicy::Basics,
-        &mut Watched::new(&mut device),
-    )?;
-    Ok((device.calls, device.has_taken(&escaped, device.calls)))
-}
-
-#[test]
-fn runs_go_out_together(rt: HostRuntime) {
-    assert!(rt; matches!(calls_for_runs_and_escapes(rt.alloc()), Ok((0..=4, true))));
-}
-
-// How often a device is called for a run of this length between two escapes.
-fn calls_for_a_run(alloc: Global, length: usize) -> Result<usize, Error> {
-    let run = "a".repeat(alloc, length)?;
-    let text = format!(in alloc; "\x1B{run}\x1B")?;
-    let mut device = LimitedWriter::new(alloc, Limits::NONE);
-    write_escaped(
-        text.as_str(),
-        EscapePolicy::Basics,
-        &mut Watched::new(&mut device),
-    )?;
-    Ok(device.calls)
-}
-
-// The same for an empty text, as it is and escaped, where a call would fail.
+// How often a device is called for an empty text, as it is and escaped, where a call would fail.
 fn calls_for_nothing(alloc: Global) -> Result<usize, Error> {
     let limits = Limits {
         room: 0,
@@ -158,10 +114,21 @@ fn calls_for_nothing(alloc: Global) -> Result<usize, Error> {
     Ok(device.calls)
 }
 
+/// A run, how often, the escapes at its ends, and the fewest and the most calls.
+const RUNS: [(&'static str, usize, (usize, usize), usize, usize); 5] = [
+    ("a", 0, (1, 1), 1, 1),
+    ("a", 20, (1, 1), 1, 1),
+    ("a", 16_000, (1, 1), 1, 1),
+    ("a", 40_000, (1, 1), 3, 3),
+    ("plain é 字 ", 4000, (0, 25), 0, 4),
+];
+
 #[test]
 fn a_long_run_goes_out_in_few_calls(rt: HostRuntime) {
-    for (length, calls) in [(0, 1), (20, 1), (16_000, 1), (40_000, 3)] {
-        assert!(rt; matches!(calls_for_a_run(rt.alloc(), length), Ok(found) if found == calls));
+    for (run, count, escapes, least, most) in RUNS {
+        let calls = calls_for(rt.alloc(), run, count, escapes);
+        let few = matches!(calls, Ok(calls) if least <= calls && calls <= most);
+        expect(&rt, few, run, count);
     }
     assert!(rt; matches!(calls_for_nothing(rt.alloc()), Ok(0)));
 }

@@ -22,22 +22,24 @@ fn lone_line(digit: u8) -> io::Result<LoneLine> {
     match digit {
         b'0' => Ok(LoneLine::RunsOn),
         b'1' => Ok(LoneLine::Refused),
+        b'2' => Ok(LoneLine::Key),
         _ => Err(invalid()),
     }
 }
 
 /// How a text is read, by five flags, each `0` or `1`: escapes, quotes, multiline values, kept indentation,
-/// brackets in names. More of them may be left out: raw backslashes, refused lines without separator, and
-/// indented comments.
+/// brackets in names. More of them may be left out: raw backslashes, what becomes of lines without separator,
+/// indented comments, and inline comments.
 pub(crate) fn reading_of_flags(flags: &str) -> io::Result<ParseOption> {
     let [escape, quote, multiline, indent, brackets, rest @ ..] = flags.as_bytes() else {
         return Err(invalid());
     };
-    let (raw, lone, comment) = match rest {
-        [] => (b'0', b'0', b'0'),
-        [raw] => (*raw, b'0', b'0'),
-        [raw, lone] => (*raw, *lone, b'0'),
-        [raw, lone, comment] => (*raw, *lone, *comment),
+    let (raw, lone, comment, note) = match rest {
+        [] => (b'0', b'0', b'0', b'0'),
+        [raw] => (*raw, b'0', b'0', b'0'),
+        [raw, lone] => (*raw, *lone, b'0', b'0'),
+        [raw, lone, comment] => (*raw, *lone, *comment, b'0'),
+        [raw, lone, comment, note] => (*raw, *lone, *comment, *note),
         _ => return Err(invalid()),
     };
     Ok(ParseOption {
@@ -48,6 +50,7 @@ pub(crate) fn reading_of_flags(flags: &str) -> io::Result<ParseOption> {
         enabled_brackets_in_section_names: flag(*brackets)?,
         enabled_raw_backslash: flag(raw)?,
         enabled_indented_comment: flag(comment)?,
+        enabled_inline_comment: flag(note)?,
         line_without_separator: lone_line(lone)?,
     })
 }

@@ -2,4 +2,5 @@
 pub mod SpellingLemmas
 pub mod KindLemmas
 pub mod BracketedNameLemmas
+pub mod LineLemmas
 pub mod ItemLemmas

@@ -4,6 +4,7 @@ pub mod TrimLemmas
 pub mod ScanLemmas
 pub mod LaneLemmas
 pub mod RunLemmas
+pub mod NoteRunLemmas
 pub mod PushLemmas
 pub mod BlockLemmas
 pub mod TableLemmas

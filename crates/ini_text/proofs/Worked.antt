@@ -6,5 +6,6 @@ pub mod WorkedBrackets
 pub mod WorkedBackslashes
 pub mod WorkedLoneLines
 pub mod WorkedComments
+pub mod WorkedNotes
 pub mod EscapedSamples
 pub mod PlainSamples

@@ -10,7 +10,7 @@ use thiserror::Error;
 /// What is wrong where reading a text stops.
 #[derive(Clone, Copy, PartialEq, Eq, Debug)]
 pub enum ParseKind {
-    /// The text ends within a name, a key, quotes or an escape.
+    /// The text ends within a name, a key, quotes or an escape; where keys may stand alone, an empty key.
     EndOfText,
     /// Among the four units of `\x`, a backslash is followed by a character other than LF.
     BrokenEscape,
@@ -19,7 +19,7 @@ pub enum ParseKind {
     /// `;` or `#` stands where an item may begin, but not in column one, nor, with indented comments, where a
     /// line starts.
     InlineComment,
-    /// A separator follows an empty key.
+    /// A separator follows an empty key; where keys may stand alone, a line end.
     MissingKey,
     /// In a multiline value, CR without LF stands in the place of an empty line.
     CrAlone,

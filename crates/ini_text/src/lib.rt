@@ -24,6 +24,7 @@ pub use item::{BorrowedItem, Item};
 pub use lines::whole_lines;
 pub use option::{LoneLine, ParseOption};
 pub use parser::Parser;
+pub use parser::line::past_note;
 pub use parser::placed::{Content, PairPlaces, PlacedElement, PlacedPair};
 pub use plain::{is_plain_name, is_plain_pair, is_plain_separator, is_plain_value};
 pub use text::{

@@ -1,10 +1,11 @@
 //! The options by which a text is read. This file knows no grammar.
-ghost use Rattle.std.specs.Prelude.{◌≡◌};
+ghost use Rattle.std.specs.Prelude.{◌≡◌, chars};
+ghost use Rattle.ini_text.specs.Grammar.Elements.{may_have_note};
 ghost use Rattle.ini_text.specs.Grammar.Keys.{begins_note};
 ghost use Rattle.ini_text.specs.Options.Backslashes.{begins_escape, is_special};
 ghost use Rattle.ini_text.specs.Options.ReadOptions.{backslash_of, default_parse_option};
 
-use crate::text::is_comment_mark;
+use crate::text::{is_comment_mark, starts_line};
 
 /// What becomes of a line in which no separator follows the key.
 #[derive(Clone, Copy, Debug)]
@@ -13,6 +14,8 @@ pub enum LoneLine {
     RunsOn,
     /// The text is refused at the line's end.
     Refused,
+    /// The key is a pair with the empty value. It may end with the text too, and has no further lines.
+    Key,
 }
 
 /// What the reader of a text allows.
@@ -35,6 +38,10 @@ pub struct ParseOption {
     /// Where a line starts, blanks and a comment mark begin a comment, which ends before LF or CR. So it is
     /// among the lines of a value too.
     pub enabled_indented_comment: bool,
+    /// Behind a blank a comment mark begins a note, which ends before LF or CR and gives nothing: in a value
+    /// outside quotes, in a key that ends with its line, and in a header in whose name brackets may stand.
+    /// Behind a header or a key alone a mark needs no blank.
+    pub enabled_inline_comment: bool,
     /// What becomes of a line in which no separator follows the key.
     pub line_without_separator: LoneLine,
 }
@@ -52,6 +59,13 @@ impl ParseOption {
         ensures { result ≡ begins_note self c }
     {
         self.enabled_indented_comment && is_comment_mark(c)
+    }
+
+    /// Whether out of column one a note may stand after the front of a text.
+    pub fn may_have_note(self, front: &str) -> bool
+        ensures { result ≡ may_have_note self (chars front.now) }
+    {
+        self.enabled_inline_comment || self.enabled_indented_comment && starts_line(front)
     }
 
     /// Whether a backslash takes the character after it along.
@@ -75,6 +89,7 @@ impl Default for ParseOption {
             enabled_brackets_in_section_names: false,
             enabled_raw_backslash: false,
             enabled_indented_comment: false,
+            enabled_inline_comment: false,
             line_without_separator: LoneLine::RunsOn,
         }
     }

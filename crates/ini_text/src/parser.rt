@@ -26,7 +26,7 @@ mod element;
 mod endpoints;
 mod fault;
 mod header;
-mod line;
+pub(crate) mod line;
 mod pair;
 pub(crate) mod placed;
 mod position;

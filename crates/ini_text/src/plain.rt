@@ -1,21 +1,24 @@
 //! Whether a name, a pair and a separator are plain: read back as they were written. This file knows kinds
 //! of characters and what a policy escapes, and no escape's text. Each function goes over its text a few
 //! times at most, and takes no memory.
-ghost use Rattle.std.specs.Prelude.{◌≡◌, ◌&&◌, ◌↔◌, IsTrue, chars};
+ghost use Rattle.std.specs.Prelude.{◌≡◌, ◌&&◌, ◌↔◌, IsTrue, chars, not};
 ghost use Rattle.std.specs.Char.{is_whitespace};
 ghost use Rattle.std.specs.List.{list_all};
-ghost use Rattle.ini_text.specs.Grammar.CharacterKinds.{is_blank, is_quote_mark, is_separator};
+ghost use Rattle.ini_text.specs.Grammar.CharacterKinds.{begins, is_blank, is_comment_mark};
+ghost use Rattle.ini_text.specs.Grammar.CharacterKinds.{is_quote_mark, is_separator};
 ghost use Rattle.ini_text.specs.Laws.Plain.{IsPlainName, IsPlainPair, IsPlainSeparator, IsPlainValue};
+ghost use Rattle.ini_text.specs.Laws.Plain.{has_bare_note};
 ghost use Rattle.ini_text.specs.Escaping.Policies.{is_escaped};
-ghost use Rattle.ini_text.specs.Inside.PlainTests.{begins, escapes_nothing, has_no_close_bracket};
-ghost use Rattle.ini_text.specs.Inside.PlainTests.{has_no_escapes, has_no_raw_separator, has_read_escapes};
+ghost use Rattle.ini_text.specs.Inside.PlainTests.{escapes_nothing, has_no_close_bracket};
+ghost use Rattle.ini_text.specs.Inside.PlainTests.{has_key_note, has_no_escapes, has_no_name_end};
+ghost use Rattle.ini_text.specs.Inside.PlainTests.{has_no_raw_separator, has_note, has_read_escapes};
 ghost use Rattle.ini_text.specs.Inside.PlainTests.{is_bare_key, is_end_trimmed, is_indented_by_escape};
 ghost use Rattle.ini_text.specs.Inside.PlainTests.{is_plain_key, is_read_back};
 ghost use Rattle.ini_text.specs.Inside.PlainTests.{is_read_escaped, is_read_raw, is_trimmed};
 ghost use Rattle.ini_text.specs.Inside.PlainTests.{may_begin_key, may_indent};
 
-use crate::option::ParseOption;
-use crate::text::{Class, is_comment_mark, is_line_end, skip, split_first};
+use crate::option::{LoneLine, ParseOption};
+use crate::text::{Class, is_blank, is_comment_mark, is_line_end, is_separator, skip, split_first};
 use crate::write::policy::EscapePolicy;
 
 /// Whether the text is a plain separator: one `=` or `:` with no more than spaces and tabs around it. Written
@@ -29,15 +32,13 @@ pub fn is_plain_separator(text: &str) -> bool
     }
 }
 
-/// Whether a section's name is plain: it is trimmed, without `]` unless brackets may stand in names, and what
-/// the policy writes for its characters is read by the options as those. A plain name is read back just as
-/// it was; so are some that aren't plain.
+/// Whether a section's name is plain: it is trimmed, without `]` unless brackets may stand in names, then
+/// without a note where inline comments are on, and what the policy writes for its characters is read by the
+/// options as those. A plain name is read back just as it was; so are some that aren't plain.
 pub fn is_plain_name(name: &str, policy: EscapePolicy, read: ParseOption) -> bool
     ensures { IsTrue result ↔ IsPlainName read policy (chars name.now) }
 {
-    is_trimmed(name)
-        && (read.enabled_brackets_in_section_names || has_no_close_bracket(name))
-        && is_read_back(name, policy, read)
+    is_trimmed(name) && has_no_name_end(name, policy, read) && is_read_back(name, policy, read)
 }
 
 /// Whether a key and its value are plain: written by the policy with a plain separator, they are read back by
@@ -46,12 +47,14 @@ pub fn is_plain_name(name: &str, policy: EscapePolicy, read: ParseOption) -> boo
 /// The key is not empty, trimmed, without `[` at its front, and with `=` and `:`, and `;` and `#` at
 /// its front, only where the policy escapes them; where keys keep their indentation it may begin with white
 /// space that the policy escapes, and where besides values aren't multiline, with spaces. The value is
-/// trimmed, and where quotes are read it doesn't begin with one. What is written for the characters of both
-/// is read as those.
+/// trimmed, and where quotes are read it doesn't begin with one. Where inline comments are on, neither the
+/// value nor a key that ends with its line has `;` or `#` behind a blank, neither of them escaped. What is
+/// written for the characters of both is read as those.
 pub fn is_plain_pair(key: &str, value: &str, policy: EscapePolicy, read: ParseOption) -> bool
     ensures { IsTrue result ↔ IsPlainPair read policy (chars key.now) (chars value.now) }
 {
     is_plain_key(key, policy, read)
+        && !has_key_note(key, policy, read)
         && is_read_back(key, policy, read)
         && is_plain_value(value, policy, read)
 }
@@ -62,13 +65,8 @@ pub fn is_plain_value(value: &str, policy: EscapePolicy, read: ParseOption) -> b
 {
     is_trimmed(value)
         && (!read.enabled_quote || !begins_with_mark(value))
+        && !has_note(value, policy, read)
         && is_read_back(value, policy, read)
-}
-
-fn is_separator(c: char) -> bool
-    ensures { result ≡ is_separator c }
-{
-    c == '=' || c == ':'
 }
 
 fn is_quote_mark(c: char) -> bool
@@ -141,10 +139,61 @@ fn is_read_raw(c: char, policy: EscapePolicy, read: ParseOption) -> bool
     !policy.should_escape(c) && !read.begins_escape(c) && !is_line_end(c)
 }
 
+// Whether inline comments are on, and the text has a note.
+fn has_note(text: &str, policy: EscapePolicy, read: ParseOption) -> bool
+    ensures { result ≡ has_note read policy (chars text.now) }
+{
+    read.enabled_inline_comment && has_bare_note(text, policy)
+}
+
+// Whether a comment mark that isn't escaped stands behind a blank that isn't.
+fn has_bare_note(text: &str, policy: EscapePolicy) -> bool
+    ensures { result ≡ has_bare_note policy (chars text.now) }
+{
+    let mut rest = text;
+    'characters: while let Some((c, after)) = split_first(rest) {
+        if is_blank(c) && !policy.should_escape(c) && begins_bare_mark(after, policy) {
+            return true;
+        }
+        rest = after;
+    }
+    false
+}
+
+fn begins_bare_mark(text: &str, policy: EscapePolicy) -> bool
+    ensures { result ≡ begins (λ c. is_comment_mark c && not (is_escaped policy c)) (chars text.now) }
+{
+    match split_first(text) {
+        Some((c, _)) => is_comment_mark(c) && !policy.should_escape(c),
+        None => false,
+    }
+}
+
+// Whether nothing in a name ends it: a bracket, or, where brackets may stand in it, a note.
+fn has_no_name_end(name: &str, policy: EscapePolicy, read: ParseOption) -> bool
+    ensures { result ≡ has_no_name_end read policy (chars name.now) }
+{
+    if read.enabled_brackets_in_section_names {
+        !has_note(name, policy, read)
+    } else {
+        has_no_close_bracket(name)
+    }
+}
+
 fn has_no_close_bracket(name: &str) -> bool
     ensures { result ≡ has_no_close_bracket (chars name.now) }
 {
     name.chars().all(|c| c != ']')
+}
+
+// Whether keys end with their lines, where inline comments are on before notes too, and the key has one.
+fn has_key_note(key: &str, policy: EscapePolicy, read: ParseOption) -> bool
+    ensures { result ≡ has_key_note read policy (chars key.now) }
+{
+    match read.line_without_separator {
+        LoneLine::RunsOn => false,
+        LoneLine::Refused | LoneLine::Key => has_note(key, policy, read),
+    }
 }
 
 // Whether a key is plain but for the characters that need escapes. Spaces before it are kept, if at all.

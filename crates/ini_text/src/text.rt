@@ -4,11 +4,11 @@ ghost use Rattle.std.specs.Prelude.{◌≡◌, ◌∷◌, ◌++◌, ◌<◌, [],
 ghost use Rattle.std.specs.Prelude.{take, drop, length, IfOk, IfSome, MatchOption, OnOk, string_bytes};
 ghost use Rattle.std.specs.Str.{IsCharBoundary, bytes_eq};
 ghost use Rattle.ini_text.specs.Grammar.CharacterKinds.{line_feed, is_line_end, is_line_feed};
-ghost use Rattle.ini_text.specs.Grammar.CharacterKinds.{is_blank, is_comment_mark};
+ghost use Rattle.ini_text.specs.Grammar.CharacterKinds.{is_blank, is_comment_mark, is_separator};
 ghost use Rattle.ini_text.specs.Grammar.Positions.{last_or, starts_line, is_column_one};
 ghost use Rattle.ini_text.specs.Parsing.Fronts.{IsRest, front_of};
-ghost use Rattle.ini_text.specs.Inside.ValueReader.{is_line_part};
-ghost use Rattle.ini_text.specs.Inside.Scans.{begins_white, is_in, is_visible, skipped, trimmed_at};
+ghost use Rattle.ini_text.specs.Inside.Scans.{begins_white, is_in, is_line_part, is_visible, skipped};
+ghost use Rattle.ini_text.specs.Inside.Scans.{trimmed_at};
 ghost use Rattle.ini_text.specs.Parsing.Items.{string_text};
 
 use crate::lanes::{Three, run_before};
@@ -55,6 +55,13 @@ pub fn is_comment_mark(c: char) -> bool
     ensures { result ≡ is_comment_mark c }
 {
     c == ';' || c == '#'
+}
+
+/// Whether a character stands between a key and its value.
+pub(crate) fn is_separator(c: char) -> bool
+    ensures { result ≡ is_separator c }
+{
+    c == '=' || c == ':'
 }
 
 /// The first character of a text, and what follows it.
@@ -161,7 +168,7 @@ pub fn front_before<'a>(text: &'a str, rest: &str) -> &'a str
 
 /// The last character of a front, and LF where it is empty.
 #[tactic(auto, using(crate::proofs::StringLemmas::ScanLemmas::last_or_append))]
-fn last_or_line_feed(front: &str) -> char
+pub(crate) fn last_or_line_feed(front: &str) -> char
     ensures { result ≡ last_or line_feed (chars front.now) }
 {
     match split_last(front) {

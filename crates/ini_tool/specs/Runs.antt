@@ -118,5 +118,6 @@ status_of (Refused NoProgress) = 4
 abbrev pub usage_line : List ℕ
 usage_line =
     codes "usage: ini_tool [--noescape] [--noquote] [--multiline] [--indent] [--brackets] "
-    ++ codes "[--raw-backslash] [--indented-comments] [--lone-lines NAME] [--crlf] [--policy NAME] "
+    ++ codes "[--raw-backslash] [--indented-comments] [--inline-comments] [--lone-lines NAME] "
+    ++ codes "[--crlf] [--policy NAME] "
     ++ codes "fmt|list|get KEY [SECTION]|set KEY VALUE [SECTION]|del KEY [SECTION]\n"

@@ -2,14 +2,15 @@
 //! as values. What a row can ask stands in the case files of `ini_cases`.
 mod borrowed;
 mod calls;
+mod dialects;
 mod differences;
 mod edits;
 mod files;
-mod indented_comments;
+mod inline_comments;
 mod large;
 mod layers;
 mod layouts;
-mod lone_lines;
+mod lengths;
 mod refusals;
 mod saving;
 mod text_edits;

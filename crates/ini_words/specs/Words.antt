@@ -7,7 +7,7 @@ use Rattle.std.specs.Str.{bytes_eq}
 use Rattle.std.specs.declared.alloc.Global.{Global}
 use Rattle.ini_text.specs.Options.ReadOptions.{default_parse_option}
 use Rattle.ini_text.specs.declared.option.LoneLine.{LoneLine}
-use Rattle.ini_text.specs.declared.option.LoneLine.TheVariants.{RunsOn, Refused}
+use Rattle.ini_text.specs.declared.option.LoneLine.TheVariants.{RunsOn, Refused, Key}
 use Rattle.ini_text.specs.declared.option.ParseOption.{ParseOption}
 use Rattle.ini_text.specs.declared.write.policy.EscapePolicy.{EscapePolicy}
 use Rattle.ini_text.specs.declared.write.policy.EscapePolicy.TheVariants.{Nothing, Basics, BasicsUnicode}
@@ -56,6 +56,8 @@ with_switch word o =
     then Some (with_reading o (record o.reading { enabled_raw_backslash = true }))
     else if bytes_eq word (codes "--indented-comments")
     then Some (with_reading o (record o.reading { enabled_indented_comment = true }))
+    else if bytes_eq word (codes "--inline-comments")
+    then Some (with_reading o (record o.reading { enabled_inline_comment = true }))
     else if bytes_eq word (codes "--crlf")
     then Some (record o { line_separator = CRLF })
     else None
@@ -78,6 +80,7 @@ abbrev pub lone_line_named : Word → Option LoneLine
 lone_line_named name =
     if bytes_eq name (codes "runs-on") then Some RunsOn
     else if bytes_eq name (codes "refused") then Some Refused
+    else if bytes_eq name (codes "keys") then Some Key
     else None
 
 -- the options of words where `o` holds before them, and the words after: each word that is an option

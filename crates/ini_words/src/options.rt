@@ -92,6 +92,7 @@ impl Options {
             "--brackets" => options.reading.enabled_brackets_in_section_names = true,
             "--raw-backslash" => options.reading.enabled_raw_backslash = true,
             "--indented-comments" => options.reading.enabled_indented_comment = true,
+            "--inline-comments" => options.reading.enabled_inline_comment = true,
             "--crlf" => options.line_separator = LineSeparator::CRLF,
             _ => return None,
         }
@@ -123,6 +124,7 @@ pub fn lone_line_named(name: &str) -> Option<LoneLine>
     match name {
         "runs-on" => Some(LoneLine::RunsOn),
         "refused" => Some(LoneLine::Refused),
+        "keys" => Some(LoneLine::Key),
         _ => None,
     }
 }

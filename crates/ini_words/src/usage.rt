@@ -9,7 +9,7 @@ macro_rules! usage_line {
             "usage: ",
             $program,
             " [--noescape] [--noquote] [--multiline] [--indent] [--brackets] [--raw-backslash]",
-            " [--indented-comments] [--lone-lines NAME] [--crlf] [--policy NAME] ",
+            " [--indented-comments] [--inline-comments] [--lone-lines NAME] [--crlf] [--policy NAME] ",
             $following,
             "\n",
         )

@@ -1,5 +1,5 @@
 -- Of which element which mend mends what.
-use Rattle.std.specs.Prelude.{◌∷◌, ◌++◌, Bool, true, false, ℕ, if◌then◌else◌, chars}
+use Rattle.std.specs.Prelude.{[], ◌∷◌, ◌++◌, Bool, true, false, ℕ, Option, None, Some, if◌then◌else◌, chars}
 use Rattle.ini_text.specs.Grammar.CharacterKinds.{backslash, close_bracket}
 use Rattle.ini_text.specs.Grammar.Places as grammar
 use Rattle.ini_text.specs.Parsing.Places.{stretches_of}
@@ -50,11 +50,16 @@ mended_value o traps.Escape value =
     if o.enabled_escape then with_value_escapes_doubled o Front value else value
 mended_value o _ value = value
 
+-- what stands after a key: the separator, and this source after it; a key alone has nothing after it
+abbrev pub mended_after_key : ParseOption → Trap → Option ℕ → Text → Text
+mended_after_key o trap None source = []
+mended_after_key o trap (Some separator) source =
+    separator ∷ (space_of source ++ mended_value o trap (value_of source))
+
 -- the source of a pair, of which this stands after the separator
-abbrev pub mended_pair : ParseOption → Trap → Text → ℕ → Text → Text
+abbrev pub mended_pair : ParseOption → Trap → Text → Option ℕ → Text → Text
 mended_pair o trap key separator source =
-    mended_key o.enabled_escape trap key
-    ++ separator ∷ (space_of source ++ mended_value o trap (value_of source))
+    mended_key o.enabled_escape trap key ++ mended_after_key o trap separator source
 
 -- the source of an element, in which the trap is mended where it is there
 abbrev pub mended : ParseOption → Trap → Text → Content → Text

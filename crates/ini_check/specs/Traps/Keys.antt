@@ -9,7 +9,7 @@ use Rattle.ini_text.specs.Options.Backslashes as backslashes
 use Rattle.ini_text.specs.declared.option.ParseOption.{ParseOption}
 use Rattle.ini.specs.Texts.{Text}
 use Rattle.ini.specs.Properties.{Pairs, first_value}
-use Rattle.ini_check.specs.Traps.LexicalStates.{is_escaped, next_state}
+use Rattle.ini_check.specs.Traps.LexicalStates.{is_before_comment, is_escaped, next_state}
 use Rattle.ini_check.specs.Traps.Lines.{is_line_taken}
 use Rattle.ini_check.specs.Traps.Values.{value_of}
 use Rattle.ini_check.specs.declared.lexical.LexicalState.{LexicalState}
@@ -91,12 +91,14 @@ is_repeated key before = is_some (first_value key before)
 abbrev pub lower : Text → Text
 lower text = map to_ascii_lowercase text
 
--- on the first line an equals sign: after white space, or anywhere, as the first two say
-abbrev pub has_equals : Bool → Bool → Text → Bool
-has_equals anywhere white [] = false
-has_equals anywhere white (c ∷ cs) =
+-- on the first line, before an inline comment, an equals sign: after white space, or anywhere, as the first
+-- two say
+abbrev pub has_equals : ParseOption → Bool → Bool → Text → Bool
+has_equals o anywhere white [] = false
+has_equals o anywhere white (c ∷ cs) =
     not (is_line_end c)
-    && ((c == equals && (anywhere || white)) || has_equals anywhere (is_whitespace c) cs)
+    && ((c == equals && (anywhere || white))
+    || (not (is_before_comment o c cs) && has_equals o anywhere (is_whitespace c) cs))
 
 -- a mark begins it that opens quotes
 abbrev pub begins_quoted : Bool → Text → Bool
@@ -113,8 +115,8 @@ begins_white (c ∷ cs) = is_whitespace c
 
 -- A colon separates, and an equals sign follows it: no white space stands after the colon, or some before the
 -- equals sign. What stands in quotes, or in a comment, doesn't count.
-abbrev pub colon_separates : Bool → Text → ℕ → Text → Bool
-colon_separates quotes key separator source =
+abbrev pub colon_separates : ParseOption → Text → ℕ → Text → Bool
+colon_separates o key separator source =
     separator == colon
-    && (not (begins_like_comment key || begins_quoted quotes (value_of source))
-    && has_equals (not (begins_white source)) false source)
+    && (not (begins_like_comment key || begins_quoted o.enabled_quote (value_of source))
+    && has_equals o (not (begins_white source)) false source)

@@ -77,9 +77,12 @@ fn push_pair(
     ensures { OnOk result (string_text out.new
         ≡ string_text out.old ++ mended read trap (chars source.now) (Pair pair.now)) }
 {
-    let (key, separator) = (pair.places.key, pair.places.separator);
-    let value_source = after_separator(source, key);
+    let key = pair.places.key;
     push_key(out, key, read.enabled_escape, trap)?;
+    let Some(separator) = pair.places.separator else {
+        return Ok(());
+    };
+    let value_source = after_separator(source, key);
     push(out, separator)?;
     push_space(out, value_source)?;
     push_value(out, value_of(value_source), read, trap)

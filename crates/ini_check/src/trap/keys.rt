@@ -7,7 +7,7 @@ ghost use Rattle.ini_check.specs.Traps.Keys.{has_key_escape, has_line_end, has_v
 ghost use Rattle.ini_check.specs.Traps.Keys.{is_meant, is_unmeant, is_unplain, mark_begins_key, runs_on};
 ghost use Rattle.ini_check.specs.declared.lexical.LexicalState.TheVariants.{Front};
 
-use crate::lexical::LexicalState;
+use crate::lexical::{LexicalState, is_before_comment};
 use crate::trap::lines::is_line_taken;
 use crate::trap::quotes::is_quote_mark;
 use crate::trap::values::value_of;
@@ -133,12 +133,12 @@ pub(crate) fn is_meant(in_name: bool, c: char) -> bool
 }
 
 /// Whether a colon separates a pair, and an equals sign follows it, of what stands after the separator.
-pub(crate) fn colon_separates(quotes: bool, key: &str, separator: char, source: &str) -> bool
-    ensures { result ≡ colon_separates quotes (chars key.now) separator (chars source.now) }
+pub(crate) fn colon_separates(read: ParseOption, key: &str, separator: char, source: &str) -> bool
+    ensures { result ≡ colon_separates read (chars key.now) separator (chars source.now) }
 {
     separator == ':'
-        && !(begins_like_comment(key) || begins_quoted(quotes, value_of(source)))
-        && has_equals(!begins_white(source), source)
+        && !(begins_like_comment(key) || begins_quoted(read.enabled_quote, value_of(source)))
+        && has_equals(read, !begins_white(source), source)
 }
 
 fn begins_white(text: &str) -> bool
@@ -167,9 +167,10 @@ fn begins_quoted(quotes: bool, text: &str) -> bool
     }
 }
 
-// Whether an equals sign stands on a text's first line: after white space, or anywhere.
-fn has_equals(anywhere: bool, text: &str) -> bool
-    ensures { result ≡ has_equals anywhere false (chars text.now) }
+// Whether an equals sign stands on a text's first line, before an inline comment: after white space, or
+// anywhere.
+fn has_equals(read: ParseOption, anywhere: bool, text: &str) -> bool
+    ensures { result ≡ has_equals read anywhere false (chars text.now) }
 {
     let mut white = false;
     let mut rest = text;
@@ -179,6 +180,9 @@ fn has_equals(anywhere: bool, text: &str) -> bool
         }
         if c == '=' && (anywhere || white) {
             return true;
+        }
+        if is_before_comment(read, c, after) {
+            return false;
         }
         white = c.is_whitespace();
         rest = after;

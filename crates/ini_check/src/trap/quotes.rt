@@ -2,9 +2,10 @@
 ghost use Rattle.std.specs.Prelude.{◌≡◌, chars, false};
 ghost use Rattle.ini_text.specs.Grammar.CharacterKinds.{is_quote_mark};
 ghost use Rattle.ini_check.specs.Traps.Quotes.{ends_with_first, is_half_quoted, is_text_after_quote};
-ghost use Rattle.ini_check.specs.Traps.Quotes.{is_white_to_line_end, leaves_line, opens_unclosed};
+ghost use Rattle.ini_check.specs.Traps.Quotes.{is_white_to_line_end, is_white_to_text_end, leaves_line};
+ghost use Rattle.ini_check.specs.Traps.Quotes.{opens_unclosed};
 
-use crate::lexical::LexicalState;
+use crate::lexical::{LexicalState, is_before_comment};
 use ini_text::{ParseOption, is_comment_mark, is_line_end, split_first};
 
 /// Whether a character is a quote's mark.
@@ -52,7 +53,9 @@ pub(crate) fn is_text_after_quote(state: LexicalState, text: &str) -> bool
     };
     match state {
         LexicalState::AfterQuote => !(c.is_whitespace() || is_quote_mark(c)),
-        LexicalState::Trailing => !(c.is_whitespace() || is_comment_mark(c)),
+        LexicalState::Trailing | LexicalState::TrailingBlank => {
+            !(c.is_whitespace() || is_comment_mark(c))
+        }
         _ => false,
     }
 }
@@ -82,15 +85,35 @@ fn ends_with_first(read: ParseOption, mark: char, text: &str) -> bool
     let mut rest = text;
     'characters: while let Some((c, after)) = split_first(rest) {
         if c == mark && !escaped {
-            return is_white_to_line_end(after);
+            return is_white_to_text_end(read, after);
         }
-        if is_line_end(c) {
+        if is_line_end(c) || (!escaped && is_before_comment(read, c, after)) {
             return false;
         }
         escaped = read.begins_escape(c) && !escaped;
         rest = after;
     }
     false
+}
+
+// Whether there is white space alone up to the line's end, or an inline comment.
+fn is_white_to_text_end(read: ParseOption, text: &str) -> bool
+    ensures { result ≡ is_white_to_text_end read (chars text.now) }
+{
+    let mut rest = text;
+    'characters: while let Some((c, after)) = split_first(rest) {
+        if is_line_end(c) {
+            return true;
+        }
+        if !c.is_whitespace() {
+            return false;
+        }
+        if is_before_comment(read, c, after) {
+            return true;
+        }
+        rest = after;
+    }
+    true
 }
 
 /// Whether there is white space alone up to the line's end.

@@ -15,5 +15,6 @@ abbrev pub place_of : Place → LinePlace
 place_of places.Line = LinePlace.line
 place_of places.Lead = LinePlace.lead
 place_of places.Within = LinePlace.within
+place_of places.Space = LinePlace.space
 place_of places.Escape = LinePlace.escape
 place_of places.Note = LinePlace.note

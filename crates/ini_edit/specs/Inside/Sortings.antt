@@ -2,7 +2,7 @@
 use Rattle.std.specs.Prelude.{◌&&◌, Bool, chars, map}
 use Rattle.ini.specs.Texts.{is_name, is_text}
 use Rattle.ini_edit.specs.Inside.SourceLayouts.{all_same}
-use Rattle.ini_edit.specs.SourceEntries.{comments_in}
+use Rattle.ini_edit.specs.SourceEntries.{behind_value, comments_in}
 use Rattle.ini_edit.specs.Sorting.{PairUnit, SectionUnit}
 use Rattle.ini_edit.specs.declared.source.layout.units.PairUnit.{PairUnit as LentPair}
 use Rattle.ini_edit.specs.declared.source.layout.units.SectionUnit.{SectionUnit as LentSection}
@@ -25,7 +25,8 @@ says_same_pair_unit p q =
     let v = pair_unit_of q in
     is_text u.pair.key v.pair.key && (is_text u.pair.value v.pair.value
     && (is_text (comments_in u.above) (comments_in v.above)
-    && is_text (comments_in u.rest) (comments_in v.rest)))
+    && is_text (comments_in (behind_value u.pair.stretches u.rest))
+    (comments_in (behind_value v.pair.stretches v.rest))))
 
 abbrev pub says_same_section_unit : LentSection → LentSection → Bool
 says_same_section_unit s t =

@@ -14,18 +14,22 @@ use Rattle.ini_text.specs.Laws.Plain.{IsPlainName}
 use Rattle.ini_text.specs.declared.error.Error.TheVariants.{Memory}
 use Rattle.ini_text.specs.Grammar.Places.{TrailingLines}
 use Rattle.ini_text.specs.Grammar.Positions.{last_or}
+use Rattle.ini_text.specs.Inside.LineReader.{past_note}
+use Rattle.ini_text.specs.Parsing.Fronts.{front_of}
 use Rattle.ini.specs.Texts.{is_text, Text}
 use Rattle.ini_edit.specs.Inside.Spans.{IsPair}
-use Rattle.ini_edit.specs.SourceEdits.{with_pairs, with_value}
+use Rattle.ini_edit.specs.SourceEdits.{with_pairs}
+use Rattle.ini_edit.specs.SourceEditsSet.{with_value_before}
 use Rattle.ini_edit.specs.SourceEditsAdd.{GapPlace, Maker}
 use Rattle.ini_edit.specs.declared.source.place.GapPlace.{GapPlace as Found}
-use Rattle.ini_edit.specs.SourceEditsDelete.{pair_taken_out, rest_put}
+use Rattle.ini_edit.specs.SourceEditsDelete.{empty_comment, ends_in_value, gap_after, pair_taken_out}
+use Rattle.ini_edit.specs.SourceEditsDelete.{rest_put, to_line_feed}
 use Rattle.ini_edit.specs.SourceEditsSections.{after_new_section, section_put}
-use Rattle.ini_edit.specs.SourceLines.{is_empty}
+use Rattle.ini_edit.specs.SourceLines.{after_line_end, is_empty}
 use Rattle.ini_edit.specs.SourcePlaces.{PairPlace, Place, exchanged, gap_put, is_nil, last_before_gap}
 use Rattle.ini_edit.specs.SourcePlaces.{last_changed}
 use Rattle.ini_edit.specs.SourcePlaces.{last_gap, nth_place}
-use Rattle.ini_edit.specs.SourcePlaces.{with_after, with_end, with_raw_value}
+use Rattle.ini_edit.specs.SourcePlaces.{last_word, with_after, with_end, with_last_word}
 use Rattle.ini_edit.specs.Quotes.{written_in}
 use Rattle.ini_edit.specs.SourceWritten.{IsReadAs, IsWrittenInPlace, Style, last_that_begins}
 use Rattle.ini_edit.specs.SourceWritten.{last_that_begins_in}
@@ -38,16 +42,29 @@ use Rattle.ini_edit.specs.declared.source.written.NewPair.{NewPair}
 use Rattle.ini_edit.specs.declared.source.written.PairStyle.{PairStyle}
 use Rattle.ini_text.specs.declared.parser.placed.Content.TheVariants as content
 
--- the new raw value, if there is one
-abbrev pub raw_value_of : Text → Option (String Global) → Text
-raw_value_of old None = old
-raw_value_of old (Some raw_value) = string_text raw_value
+-- the new last word, if there is one
+abbrev pub word_of : Text → Option (String Global) → Text
+word_of old None = old
+word_of old (Some word) = string_text word
 
 -- a pair with its last parts new
 abbrev pub with_new_end : NewEnd → PairPiece → PairPiece
 with_new_end e p =
     with_end (string_text e.trailing_lines) (string_text e.after)
-    (with_raw_value (raw_value_of p.stretches.raw_value e.raw_value) p)
+    (with_last_word (word_of (last_word p) e.last_word) p)
+
+-- The lines after the value that a key alone gets, and what follows them, where the value would take that or
+-- not; a note that followed the key stands before these.
+abbrev pub ends_of_value : ParseOption → (apart : Bool) → PairPiece → Text × Text
+ends_of_value o apart p =
+    let rest = past_note o p.after in
+    let end = front_of rest (after_line_end rest) in
+    if o.enabled_indented_mutiline_value
+    then (
+      end ++ (if apart then to_line_feed (last_or line_feed end) else []),
+      (if apart then empty_comment (line_feed ∷ []) else []) ++ gap_after o p,
+    )
+    else ([], rest)
 
 -- those of the last of the pairs before a place, or of the header, where there are none; then these pairs
 -- follow
@@ -94,10 +111,11 @@ abbrev pub made_pair : ParseOption → NewPair → (indented : Bool) → (lines 
 made_pair o pair indented lines gap = record {
   stretches = record {
     key = (if indented then string_text pair.indent else []) ++ string_text pair.raw_key;
-    separator = pair.separator;
+    separator = Some pair.separator;
     space_before = cow_text pair.space_before;
     raw_value = string_text pair.raw_value;
     space_after = [];
+    note = [];
     trailing_lines = if o.enabled_indented_mutiline_value then lines else [];
   };
   key = string_text pair.key;
@@ -145,13 +163,14 @@ module _ (o : ParseOption) (policy : EscapePolicy) where
   abbrev pub IsWrittenOr : Text → PairPiece → Option Text → Type 0
   IsWrittenOr value p None = value ≡ p.value
   IsWrittenOr value p (Some source) =
-      (value ≢ p.value) × IsWrittenInPlace o policy p.stretches.raw_value p.value value source
+      (value ≢ p.value) × IsWrittenInPlace o policy p.stretches.raw_value p.stretches.note p.value value source
 
   -- the pair at the place has the value
   pub record IsSetAt (value : Text) (old new : SectionPiece) (p : Place PairPiece) : Type 0 where
     pub source : Text
-    pub is_written : IsWrittenInPlace o policy p.here.stretches.raw_value p.here.value value source
-    pub is : new ≡ pair_changed_in (with_value source value) old p
+    pub is_written : IsWrittenInPlace o policy p.here.stretches.raw_value p.here.stretches.note p.here.value
+        value source
+    pub is : new ≡ pair_changed_in (with_value_before o source value p.after) old p
 
   -- the same, and the later pairs of the key are out
   pub record IsSetAlone (front : ℕ) (key value : Text) (old new : SectionPiece)
@@ -224,11 +243,11 @@ parted_lines o lines gap = if o.enabled_indented_mutiline_value then (lines, gap
 
 -- the last of the pairs takes lines that follow what is kept of its gap
 abbrev pub takes_lines : ParseOption → (kept : Text) → List PairPiece → Bool
-takes_lines o kept ps = o.enabled_indented_mutiline_value && (is_empty kept && not (is_nil ps))
+takes_lines o kept ps = is_empty kept && ends_in_value o ps
 
 -- the last parts of a section of these pairs, of whose last gap this is kept, and lines and a rest follow
 pub record IsKept (o : ParseOption) (kept lines rest : Text) (ps : List PairPiece) (e : NewEnd) : Type 0 where
-  pub raw_value : e.raw_value ≡ None
+  pub last_word : e.last_word ≡ None
   pub trailing_lines : string_text e.trailing_lines
       ≡ (if takes_lines o kept ps then trailing_of ps ++ lines else trailing_of ps)
   pub after : string_text e.after

@@ -7,7 +7,7 @@ use Rattle.ini_text.specs.Parsing.Fronts.{IsRest}
 use Rattle.ini_text.specs.declared.option.ParseOption.{ParseOption}
 use Rattle.ini.specs.Texts.{Text, is_name, is_text}
 use Rattle.ini_edit.specs.Inside.SourceEnds.{style_of}
-use Rattle.ini_edit.specs.SourceEntries.{comments_in, entries_in}
+use Rattle.ini_edit.specs.SourceEntries.{behind_value, comments_in, entries_in}
 use Rattle.ini_edit.specs.SourceLayout.{Rules, laid_text}
 use Rattle.ini_edit.specs.SourcePlaces.{gap_of, is_nil}
 use Rattle.ini_edit.specs.Sources.{PairPiece, Pieces, SectionPiece}
@@ -39,7 +39,8 @@ all_same same (x ∷ xs) (y ∷ ys) = same x y && all_same same xs ys
 -- whether two pairs, and two sections, say the same
 abbrev pub says_same_pair : PairPiece → PairPiece → Bool
 says_same_pair p q =
-    is_text p.key q.key && (is_text p.value q.value && is_text (comments_in p.after) (comments_in q.after))
+    is_text p.key q.key && (is_text p.value q.value
+    && is_text (comments_in (behind_value p.stretches p.after)) (comments_in (behind_value q.stretches q.after)))
 
 abbrev pub says_same_section : SectionPiece → SectionPiece → Bool
 says_same_section s t =

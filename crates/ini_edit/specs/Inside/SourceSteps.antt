@@ -7,10 +7,8 @@ use Rattle.ini_text.specs.declared.option.ParseOption.{ParseOption}
 use Rattle.ini_text.specs.declared.write.policy.EscapePolicy.{EscapePolicy}
 use Rattle.ini.specs.Texts.{Text}
 use Rattle.ini_edit.specs.Inside.Quotes.{IsOwnSource}
-use Rattle.ini_edit.specs.Quotes.{IsPut}
 use Rattle.ini_edit.specs.Renamed.{HasEdges}
 use Rattle.ini_edit.specs.SourceEdits.{first_changed, first_fitting, key_changed, pair_of_key, with_key}
-use Rattle.ini_edit.specs.SourceEdits.{with_value}
 use Rattle.ini_edit.specs.Sources.{PairPiece, SectionPiece}
 
 -- at the index stands the first of the list that fits, so that an edit of it is one of that place
@@ -27,25 +25,6 @@ abbrev pub HaveOwnSources : ParseOption → List PairPiece → Type 0
 HaveOwnSources o ps = All (λ p. IsOwnSource o p.stretches.raw_value) ps
 
 module _ (o : ParseOption) (policy : EscapePolicy) where
-  -- the pair has the value
-  pub record SetsPair (old new : PairPiece) (value : Text) : Type 0 where
-    pub source : Text
-    pub is_put : IsPut o policy old.stretches.raw_value old.value value source
-    pub is : new ≡ with_value source value old
-
-  -- the first pair of the key has the value
-  pub record SetsKey (old new : SectionPiece) (key value : Text) : Type 0 where
-    pub pair : PairPiece
-    pub was : pair_of_key key old ≡ Some pair
-    pub source : Text
-    pub is_put : IsPut o policy pair.stretches.raw_value pair.value value source
-    pub is : new ≡ key_changed key (with_value source value) old
-
-  -- or there is no such pair, and all stays
-  abbrev pub SetsIn : SectionPiece → SectionPiece → Text → Text → Bool → Type 0
-  SetsIn old new key value true = SetsKey old new key value
-  SetsIn old new key value false = (new ≡ old) × (pair_of_key key old ≡ None)
-
   -- the pair has the key
   pub record RenamesPair (old new : PairPiece) (other : Text) : Type 0 where
     pub indent : Text

@@ -4,8 +4,9 @@ use Rattle.std.specs.List.{list_all}
 use Rattle.ini_text.specs.Grammar.CharacterKinds.{line_feed, is_inline_white, is_separator, BeginsWithNo}
 use Rattle.ini_text.specs.Grammar.Elements.{Header, Element}
 use Rattle.ini_text.specs.Grammar.Keys.{KeyFront}
+use Rattle.ini_text.specs.Grammar.Lines.{LineTail}
 use Rattle.ini_text.specs.Grammar.Pieces.{ArePieces, Piece, pieces_items, pieces_text}
-use Rattle.ini_text.specs.Grammar.Places.{OwnLines, Stretches, TrailingLines, pair_source}
+use Rattle.ini_text.specs.Grammar.Places.{IsLone, OwnLines, Stretches, TrailingLines, pair_source}
 use Rattle.ini_text.specs.Grammar.Places.{value_source}
 use Rattle.ini_text.specs.Grammar.Values.{Value}
 use Rattle.ini_text.specs.declared.option.ParseOption.{ParseOption}
@@ -26,20 +27,36 @@ span_source (pair p key value) = pair_source p
 span_source (gap source) = source
 
 module _ (o : ParseOption) where
-  -- after the character c and before r, the stretches are those of a pair
-  pub record IsPair (c : ℕ) (p : Stretches) (key value r : Text) : Type 0 where
-    pub key_front : KeyFront o (c ∷ []) p.key (p.separator ∷ []) key
+  -- after the character c and before r, the stretches are those of a pair with a separator
+  pub record IsValuePair (c : ℕ) (p : Stretches) (key value r : Text) : Type 0 where
+    pub separator : ℕ
+    pub separator_is : p.separator ≡ Some separator
+    pub key_front : KeyFront o (c ∷ []) p.key (separator ∷ []) key
     pub some : key ≢ []
-    pub separates : is_separator p.separator ≡ true
+    pub separates : is_separator separator ≡ true
     pub gives : Value o (value_source p) r value
     pub white_before : list_all is_inline_white p.space_before ≡ true
     pub starts : BeginsWithNo is_inline_white p.raw_value
     pub white_after : list_all is_inline_white p.space_after ≡ true
     pub are_trailing : TrailingLines o p.trailing_lines r
-    -- the raw value, and white space after it, are all of the value's own lines
-    pub own_lines : OwnLines o (p.raw_value ++ p.space_after) (p.trailing_lines ++ r)
+    -- the raw value, and white space after it, are all of the value's own lines, up to a note
+    pub own_lines : OwnLines o (p.raw_value ++ p.space_after) (p.note ++ (p.trailing_lines ++ r))
+    pub note : LineTail p.note (p.trailing_lines ++ r)
+    -- no note stands after an empty value
+    pub unnoted : p.raw_value ≡ [] → p.note ≡ []
     -- no white space stands after a backslash that would take it
     pub closed : ending o p.raw_value ≡ Ending.escape → p.space_after ≡ []
+
+  -- those of a key alone
+  pub record IsLonePair (c : ℕ) (p : Stretches) (key value r : Text) : Type 0 where
+    pub lone : IsLone o p r value
+    pub key_front : KeyFront o (c ∷ []) p.key r key
+    pub some : key ≢ []
+
+  -- those of a pair
+  pub data IsPair (c : ℕ) (p : Stretches) (key value r : Text) : Type 0 where
+    has_value : IsValuePair c p key value r → IsPair c p key value r
+    is_lone : IsLonePair c p key value r → IsPair c p key value r
 
   -- elements that give nothing
   pub record IsGap (c : ℕ) (source r : Text) : Type 0 where

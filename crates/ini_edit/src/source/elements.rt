@@ -1,9 +1,9 @@
 //! The elements of a text in pieces, in order: each with its section and where it begins. This file knows
 //! sections and pairs by their calls, and of characters the line feed.
-ghost use Rattle.std.specs.Prelude.{◌≡◌, [], chars, map};
+ghost use Rattle.std.specs.Prelude.{◌≡◌, ◌++◌, [], chars, map};
 ghost use Rattle.ini.specs.Texts.{str_text};
 ghost use Rattle.std.specs.Iterator.{YieldsFirstBy, item_count};
-ghost use Rattle.ini_text.specs.Grammar.Places.{pair_source};
+ghost use Rattle.ini_text.specs.Grammar.Places.{pair_source, separator_text};
 ghost use Rattle.ini_edit.specs.Inside.SourceElementWalks.{GoesOn, GoesOverPair, elements_left, passed};
 ghost use Rattle.ini_edit.specs.Inside.SourceElementWalks.{passed_character};
 ghost use Rattle.ini_edit.specs.SourceElements.{content_text, elements_in, position_of, shown_content};
@@ -80,7 +80,7 @@ impl<'s, 'a> SourceContent<'s, 'a> {
     {
         match self {
             SourceContent::Header(source) => is_empty(source),
-            SourceContent::Pair(_) => false,
+            SourceContent::Pair(pair) => pair.is_empty(),
             SourceContent::Between(source) => is_empty(source),
         }
     }
@@ -101,21 +101,30 @@ impl<'s, 'a> SourceContent<'s, 'a> {
 pub(crate) fn value_of_pair(pair: &SourcePair<'_>, position: Position) -> Position
     ensures { result ≡ passed position (up_to_value pair.now.stretches) }
 {
-    position
-        .after(pair.raw_key())
-        .next(pair.separator())
-        .after(pair.space_before())
+    end_of_key(pair, position).after(pair.space_before())
+}
+
+// Where the key and the separator of a pair end, or a key alone, which begins at the position.
+fn end_of_key(pair: &SourcePair<'_>, position: Position) -> Position
+    ensures { result ≡ passed position
+        (pair.now.stretches.key ++ separator_text pair.now.stretches.separator) }
+{
+    let end = position.after(pair.raw_key());
+    match pair.separator() {
+        Some(separator) => end.next(separator),
+        None => end,
+    }
 }
 
 // Where a pair ends that begins at the position.
 pub(crate) fn end_of_pair(pair: &SourcePair<'_>, position: Position) -> Position
     ensures { result ≡ passed position (pair_source pair.now.stretches) }
 {
-    let value = position.after(pair.raw_key()).next(pair.separator());
-    value
+    end_of_key(pair, position)
         .after(pair.space_before())
         .after(pair.raw_value())
         .after(pair.space_after())
+        .after(pair.note())
         .after(pair.trailing_lines())
 }
 

@@ -49,7 +49,7 @@ pub struct Layout<'l> {
     /// the text's front and end.
     pub blank_lines: u8,
     /// Whether the separators of neighbouring pairs stand below each other, counted in characters: pairs with
-    /// no comment, blank line or header between, each of which begins a line.
+    /// no comment line, blank line or header between, each of which begins a line.
     pub aligned: bool,
 }
 

@@ -4,8 +4,9 @@ ghost use Rattle.std.specs.Prelude.{◌≡◌, ◌↔◌, ◌++◌, ◌&&◌, []
 ghost use Rattle.std.specs.Option.{option_map};
 ghost use Rattle.ini.specs.Texts.{Text, str_text};
 ghost use Rattle.ini_text.specs.Grammar.CharacterKinds.{is_blank, is_line_end, is_line_feed};
+ghost use Rattle.ini_text.specs.Grammar.Places.{separator_text};
 ghost use Rattle.ini_text.specs.Grammar.Positions.{last_or};
-ghost use Rattle.ini_text.specs.Inside.PlainTests.{begins};
+ghost use Rattle.ini_text.specs.Grammar.CharacterKinds.{begins};
 ghost use Rattle.ini_text.specs.Parsing.Fronts.{front_of};
 ghost use Rattle.ini_edit.specs.Inside.CommentStates.{comment_state_of};
 ghost use Rattle.ini_edit.specs.Inside.SourceSearches.{IsSearched};
@@ -238,8 +239,8 @@ fn begins_key(text: &str, read: ParseOption) -> bool
     }
 }
 
-// What a walk over gaps and comments is in: no comment; one in column one, which LF ends; or a note, which LF
-// or CR ends.
+// What a walk over gaps and comments is in: no comment; one in column one, which LF ends; or a note, which
+// LF or CR ends.
 #[derive(Clone, Copy, Debug)]
 enum CommentState {
     Outside,
@@ -377,8 +378,18 @@ impl LineEndSearch {
         self.found
     }
 
-    /// The search gone on over a character.
-    pub(crate) fn after_char(self, c: char) -> Self
+    /// The search gone on over a character, if there is one.
+    pub(crate) fn after_separator(self, c: Option<char>) -> Self
+        ensures { (front : Text) → IsSearched front self → IsSearched (front ++ separator_text c) result }
+    {
+        match c {
+            Some(c) => self.after_char(c),
+            None => self,
+        }
+    }
+
+    // The search gone on over a character.
+    fn after_char(self, c: char) -> Self
         ensures { (front : Text) → IsSearched front self → IsSearched (front ++ c ∷ []) result }
     {
         let mut buffer = [0; 4];

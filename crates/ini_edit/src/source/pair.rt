@@ -4,16 +4,13 @@ ghost use Rattle.ini.specs.Texts.{str_text};
 ghost use Rattle.ini_text.specs.Device.Gathering.{Sends};
 ghost use Rattle.ini_text.specs.Device.Watched.{IsClear};
 ghost use Rattle.ini_text.specs.Parsing.Items.{string_text};
-ghost use Rattle.ini_edit.specs.Inside.Quotes.{IsOwnSource};
-ghost use Rattle.ini_edit.specs.Inside.SourceSteps.{RenamesPair, SetsPair};
+ghost use Rattle.ini_edit.specs.Inside.SourceSteps.{RenamesPair};
 ghost use Rattle.ini_edit.specs.Sources.{pair_text, placed_piece};
 
-use crate::append::{push, push_text};
-use crate::escape::push_in_quote;
+use crate::append::push_text;
 use crate::key::push_key;
-use crate::quote::kept_quote;
 use crate::source::sending::{put_before, put_both};
-use ini_text::{Error, EscapePolicy, Gatherer, ParseOption, PlacedPair, Watched, is_same_text};
+use ini_text::{Error, EscapePolicy, Gatherer, ParseOption, PlacedPair, Watched};
 use std::alloc::Global;
 use std::borrow::CowStr;
 use std::io::Write;
@@ -30,10 +27,11 @@ pub struct SourcePair<'a> {
     key: CowStr<'a>,
     value: CowStr<'a>,
     raw_key: CowStr<'a>,
-    separator: char,
+    separator: Option<char>,
     space_before: CowStr<'a>,
     raw_value: CowStr<'a>,
     space_after: CowStr<'a>,
+    note: CowStr<'a>,
     trailing_lines: CowStr<'a>,
     after: CowStr<'a>,
 }
@@ -51,6 +49,7 @@ impl<'a> Model for SourcePair<'a> {
         space_before = cow_text p.space_before;
         raw_value = cow_text p.raw_value;
         space_after = cow_text p.space_after;
+        note = cow_text p.note;
         trailing_lines = cow_text p.trailing_lines;
       };
       key = cow_text p.key;
@@ -73,6 +72,7 @@ impl<'a> SourcePair<'a> {
             space_before: CowStr::Borrowed(places.space_before),
             raw_value: CowStr::Borrowed(places.raw_value),
             space_after: CowStr::Borrowed(places.space_after),
+            note: CowStr::Borrowed(places.note),
             trailing_lines: CowStr::Borrowed(places.trailing_lines),
             after: CowStr::Borrowed(after),
         }
@@ -90,32 +90,6 @@ impl<'a> SourcePair<'a> {
         ensures { str_text result ≡ self.now.value }
     {
         self.value.as_str()
-    }
-
-    // Sets the value: one that the pair has already stays as it is written; another one is written by the
-    // policy, in the old one's quotes where it can be. Refused, the pair stays.
-    pub(crate) fn set_value(
-        &mut self,
-        alloc: Global,
-        value: &str,
-        policy: EscapePolicy,
-        read: ParseOption,
-    ) -> Result<(), Error>
-        requires own { IsOwnSource read self.old.stretches.raw_value }
-        ensures set { OnOk result (SetsPair read policy self.old self.new (chars value.now)) }
-        ensures unchanged { OnErr result (self.new ≡ self.old) }
-        ensures only { IsOkUnless result (Error.Memory alloc_error) }
-    {
-        if is_same_text(value, self.value.as_str()) {
-            return Ok(());
-        }
-        let mut raw_value = String::new(alloc);
-        let quote = kept_quote(self.raw_value.as_str(), value, read);
-        push_in_quote(alloc, &mut raw_value, quote, value, policy)?;
-        let value = String::from_str(alloc, value)?;
-        self.raw_value = CowStr::Owned(raw_value);
-        self.value = CowStr::Owned(value);
-        Ok(())
     }
 
     // Gives the pair another key, which the policy writes between the white space that stood around the old
@@ -151,11 +125,11 @@ impl<'a> SourcePair<'a> {
         ensures pushed { OnOk result (string_text out.new ≡ string_text out.old ++ pair_text self.now) }
         ensures only { IsOkUnless result (Error.Memory alloc_error) }
     {
-        push_text(out, self.raw_key.as_str())?;
-        push(out, self.separator)?;
+        self.push_key(out)?;
         push_text(out, self.space_before.as_str())?;
         push_text(out, self.raw_value.as_str())?;
         push_text(out, self.space_after.as_str())?;
+        push_text(out, self.note.as_str())?;
         push_text(out, self.trailing_lines.as_str())?;
         push_text(out, self.after.as_str())
     }
@@ -176,12 +150,12 @@ impl<'a> SourcePair<'a> {
             self.raw_value.as_str(),
             out,
         )?;
+        put_both(lines, self.space_after.as_str(), self.note.as_str(), out)?;
         put_both(
             lines,
-            self.space_after.as_str(),
             self.trailing_lines.as_str(),
+            self.after.as_str(),
             out,
-        )?;
-        lines.put(self.after.as_str(), out)
+        )
     }
 }

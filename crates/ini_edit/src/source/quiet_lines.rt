@@ -1,20 +1,21 @@
-//! The lines after a multiline value: where one ends, and the quiet ones at their end, which are blank or hold
-//! an indented comment.
+//! The lines after a multiline value: where one ends, and the quiet ones at their end, which are blank or
+//! hold an indented comment.
 ghost use Rattle.std.specs.Prelude.{◌≡◌, chars};
 ghost use Rattle.ini_edit.specs.Inside.Lines.{place_of};
 ghost use Rattle.ini_edit.specs.SourceLines.{ends_in_line, ends_line, is_line, next_place};
 ghost use Rattle.ini_edit.specs.SourceLines.{next_within, quiet_lines_at_end, stays_quiet};
 
 use crate::source::lines::begins_with_line_feed;
-use ini_text::{ParseOption, is_blank, is_line_end, split_first};
+use ini_text::{ParseOption, is_blank, is_comment_mark, is_line_end, split_first};
 
 // Where a walk over the lines after a value stands: where a line starts, in the white space that begins it,
-// further within it, after a backslash that takes what follows, or in a note.
+// further within it, there behind a raw blank, after a backslash that takes what follows, or in a note.
 #[derive(Clone, Copy, Debug)]
 enum LinePlace {
     Line,
     Lead,
     Within,
+    Space,
     Escape,
     Note,
 }
@@ -72,7 +73,7 @@ fn stays_quiet(place: LinePlace, c: char, read: ParseOption) -> bool
         LinePlace::Line => is_blank(c) || is_line_end(c),
         LinePlace::Lead => is_blank(c) || is_line_end(c) || read.begins_note(c),
         LinePlace::Within => is_line_end(c),
-        LinePlace::Escape => false,
+        LinePlace::Space | LinePlace::Escape => false,
         LinePlace::Note => true,
     }
 }
@@ -92,6 +93,7 @@ fn next_place(place: LinePlace, c: char, after: &str, read: ParseOption) -> Line
         LinePlace::Line if is_blank(c) => LinePlace::Lead,
         LinePlace::Lead if c.is_whitespace() && !is_line_end(c) => LinePlace::Lead,
         LinePlace::Lead if read.begins_note(c) => LinePlace::Note,
+        LinePlace::Space if read.enabled_inline_comment && is_comment_mark(c) => LinePlace::Note,
         _ => next_within(c, read),
     }
 }
@@ -109,6 +111,9 @@ fn next_within(c: char, read: ParseOption) -> LinePlace
 {
     if read.begins_escape(c) {
         return LinePlace::Escape;
+    }
+    if is_blank(c) {
+        return LinePlace::Space;
     }
     LinePlace::Within
 }

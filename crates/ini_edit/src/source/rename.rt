@@ -53,7 +53,8 @@ impl<'a> Source<'a> {
     /// section has no name.
     ///
     /// The new name stands between the header's brackets as the policy writes it: blanks within the old
-    /// brackets go, and where brackets may stand in names, those up to the line end. Every other byte stays.
+    /// brackets go, and where brackets may stand in names, those up to the line end, but not those before a
+    /// note. Every other byte stays.
     ///
     /// # Errors
     ///

@@ -7,15 +7,17 @@ ghost use Rattle.ini.specs.Properties.{first_value, values};
 ghost use Rattle.ini_text.specs.Device.Gathering.{Sends};
 ghost use Rattle.ini_text.specs.Device.Watched.{IsClear};
 ghost use Rattle.ini_text.specs.Parsing.Items.{cow_text, string_text};
-ghost use Rattle.ini_edit.specs.Inside.SourceSteps.{HaveOwnSources, IsFirstAt, RenamesIn, SetsIn};
+ghost use Rattle.ini_edit.specs.Inside.SourceSteps.{HaveOwnSources, IsFirstAt, RenamesIn};
 ghost use Rattle.ini_edit.specs.Sections.{header_of};
-ghost use Rattle.ini_edit.specs.SourceEdits.{first_fitting, with_header};
+ghost use Rattle.ini_edit.specs.SourceEdits.{blanks_before_note, first_fitting, with_header};
 ghost use Rattle.ini_edit.specs.Sources.{given_pair, pairs_text, section_text};
 
 use crate::append::{push, push_text};
 use crate::escape::push_escaped;
+use crate::source::lines::blanks_at_end;
 use crate::source::pair::SourcePair;
 use crate::source::sending::put_both;
+use crate::text::begins_with_comment;
 use ini_text::{Error, EscapePolicy, Gatherer, ParseOption, Watched, is_same_text};
 use std::alloc::{AllocError, Global};
 use std::borrow::CowStr;
@@ -145,28 +147,6 @@ impl<'a> SourceSection<'a> {
         Ok(found)
     }
 
-    // Sets the value of the first pair of a key: whether there is one. Refused, the section stays.
-    pub(crate) fn set_value(
-        &mut self,
-        alloc: Global,
-        key: &str,
-        value: &str,
-        policy: EscapePolicy,
-        read: ParseOption,
-    ) -> Result<bool, Error>
-        requires own { HaveOwnSources read self.old.pairs }
-        ensures set { IfOk result
-            (SetsIn read policy self.old self.new (chars key.now) (chars value.now)) }
-        ensures unchanged { OnErr result (self.new ≡ self.old) }
-        ensures only { IsOkUnless result (Error.Memory alloc_error) }
-    {
-        let Some(index) = position(&self.pairs, key) else {
-            return Ok(false);
-        };
-        self.pairs[index].set_value(alloc, value, policy, read)?;
-        Ok(true)
-    }
-
     // Gives the first pair of a key another one: whether there is that pair. Refused, the section stays.
     pub(crate) fn rename_key(
         &mut self,
@@ -200,11 +180,22 @@ impl<'a> SourceSection<'a> {
         ensures unchanged { OnErr result (self.new ≡ self.old) }
         ensures only { IsOkUnless result (Error.Memory alloc_error) }
     {
-        let header = written_header(alloc, name, policy)?;
+        let mut header = written_header(alloc, name, policy)?;
+        push_text(&mut header, self.blanks_before_note())?;
         let name = String::from_str(alloc, name)?;
         self.name = Some(CowStr::Owned(name));
         self.header = CowStr::Owned(header);
         Ok(())
+    }
+
+    // The blanks that end the header, where a note follows them.
+    fn blanks_before_note(&self) -> &str
+        ensures { chars result.now ≡ blanks_before_note self.now }
+    {
+        if begins_with_comment(self.after()) {
+            return blanks_at_end(self.header());
+        }
+        ""
     }
 
     // Appends the section's text.

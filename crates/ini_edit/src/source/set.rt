@@ -19,7 +19,7 @@ ghost use Rattle.ini_edit.specs.declared.error.EditError.TheVariants as EditErro
 ghost use Rattle.ini_edit.specs.declared.source.set.LaterPairs.TheVariants as later_pairs;
 
 use crate::error::EditError;
-use crate::quote::kept_quote;
+use crate::quote::{kept_quote, quote_before};
 use crate::source::Source;
 use crate::source::pair::SourcePair;
 use crate::source::section::SourceSection;
@@ -42,7 +42,9 @@ impl<'a> Source<'a> {
     ///
     /// A value that is there already stays as it is written. Another one is written in the first form that
     /// is read back as it: in the quotes in which the old value stands, bare as the policy escapes it, in
-    /// double quotes, in single quotes. White space around the value stays, and so does every other byte.
+    /// double quotes, in single quotes. White space around the value stays, and so does every other byte. An
+    /// empty value stands in quotes before a note; where quotes aren't read, the note goes. A key alone gets
+    /// `=`; where a multiline value would take what follows, an empty comment stands before that.
     ///
     /// # Errors
     ///
@@ -219,14 +221,15 @@ impl<'a> SourceSection<'a> {
         ensures unchanged { OnErr result (self.new ≡ self.old) }
         ensures only { IsOkUnless result (EditErrors.Text (Memory alloc_error)) }
     {
-        match self.written_at(alloc, index, value, policy, read)? {
-            Some(raw_value) => {
-                let value = String::from_str(alloc, value)?;
-                self.put_value_at(index, raw_value, value);
-                Ok(())
-            }
-            None => Ok(()),
+        let Some(raw_value) = self.written_at(alloc, index, value, policy, read)? else {
+            return Ok(());
+        };
+        let value = String::from_str(alloc, value)?;
+        if self.pairs()[index].has_separator() {
+            self.put_value_at(index, raw_value, value);
+            return Ok(());
         }
+        Ok(self.put_separator_at(alloc, index, raw_value, value, read)?)
     }
 
     // Sets the value of the pair at the index, and takes out the pairs of the key after its first. Refused,
@@ -319,7 +322,8 @@ fn written_in_place(
     if is_same_text(value, pair.value()) {
         return Ok(None);
     }
-    let quote = kept_quote(pair.raw_value(), value, read);
+    let kept = kept_quote(pair.raw_value(), value, read);
+    let quote = quote_before(kept, value, pair.note(), read);
     match first_form(alloc, quote, value, policy, read)? {
         Some(source) => Ok(Some(source)),
         None => Err(EditError::Value),

@@ -7,7 +7,7 @@ ghost use Rattle.ini_text.specs.Parsing.Items.{string_text};
 ghost use Rattle.ini_edit.specs.Inside.SourceEnds.{GivesValue, IsNewPair, IsTried, made_pair};
 ghost use Rattle.ini_edit.specs.Inside.SourceEnds.{parted_lines, style_of};
 ghost use Rattle.ini_text.specs.Grammar.CharacterKinds.{is_blank};
-ghost use Rattle.ini_text.specs.Inside.PlainTests.{begins};
+ghost use Rattle.ini_text.specs.Grammar.CharacterKinds.{begins};
 ghost use Rattle.ini_edit.specs.SourceWritten.{HasForm, IsFirstReadAs, IsReadAs, option_style, style_like};
 ghost use Rattle.ini_edit.specs.SourceWritten.{value_forms};
 
@@ -138,7 +138,7 @@ impl<'a> SourcePair<'a> {
                 blanks
             },
             pad: blanks_at_end(self.raw_key()),
-            separator: self.separator(),
+            separator: self.separator().unwrap_or('='),
             space_before,
         }
     }

@@ -1,18 +1,14 @@
 //! A multimap and the plain list beside it: each call is made on both, and the replies are compared.
 use super::TextKey;
-use super::calls::{Call, expect_answer, text};
+use super::calls::{Call, expect_answer};
 use super::list::PlainList;
 use super::walks::{ORDERS, Order, same_values, same_walk};
+use crate::show::{expect, text};
 use ini_multimap::{Multimap, Probe};
 use std::alloc::Global;
 use std::mem;
 use std::panic::Expect;
 use std::process::Abort;
-
-// Asks that this held of the call at a key's text.
-fn expect(rt: &impl Abort, as_expected: bool, call: &str, key: &str) {
-    assert!(rt; as_expected, "{call} {key}");
-}
 
 // The key of a text.
 fn key<K: TextKey>(rt: &(impl Abort + AllocGlobal), of: &str) -> K {
@@ -20,7 +16,7 @@ fn key<K: TextKey>(rt: &(impl Abort + AllocGlobal), of: &str) -> K {
 }
 
 /// The two, which hold the same pairs.
-#[derive(Debug, Drop)]
+#[derive(Drop)]
 pub struct Both<K: TextKey> {
     map: Multimap<K, u32>,
     list: PlainList<K>,
@@ -66,9 +62,9 @@ impl<K: TextKey> Both<K> {
         for at in places {
             let old = values.next().map(|place| mem::replace(place, value));
             let same = old.is_some() && list.set_at(at, value) == old;
-            expect(rt, same, "get_all_mut", text);
+            expect(rt, same, text, at);
         }
-        expect(rt, values.next().is_none(), "get_all_mut", text);
+        expect(rt, values.next().is_none(), text, 0);
     }
 
     /// Asks for the key by its text, and walks over its values from each end.
@@ -88,7 +84,7 @@ impl<K: TextKey> Both<K> {
     pub fn look_up_key(&self, rt: &(impl Abort + AllocGlobal), text: &str) {
         let key: K = key(rt, text);
         let value = self.map.get(&key).copied();
-        expect(rt, value == self.list.get(&key), "get the key", text);
+        expect(rt, value == self.list.get(&key), text, 0);
     }
 
     /// Compares the numbers and the walks from each end.
@@ -96,9 +92,9 @@ impl<K: TextKey> Both<K> {
     where
         &'t str: Probe<K>,
     {
-        self.call(rt, Call::LenPairs, text);
-        self.call(rt, Call::LenKeys, text);
-        self.call(rt, Call::IsEmpty, text);
+        for call in [Call::LenPairs, Call::LenKeys, Call::IsEmpty] {
+            self.call(rt, call, text);
+        }
         let all = self.list.all_places().expect(rt, "memory");
         let keys = self.list.key_places().expect(rt, "memory");
         let Both { map, list } = self;

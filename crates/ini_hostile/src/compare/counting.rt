@@ -1,4 +1,5 @@
-//! What calls on many pairs ask of their keys: `code` and `==` a few times, however many pairs there are.
+//! What calls ask of the keys: `code` and `==` a few times, however many pairs there are; among few pairs,
+//! one code is made, and keys are compared from the first on that has its low byte.
 ghost use Rattle.std.specs.Prelude.{string_bytes, bytes_eq};
 ghost use Rattle.std.proofs.Common.{rules};
 ghost use Rattle.std.specs.Cmp.Rules.{comparing};
@@ -7,14 +8,14 @@ ghost use Rattle.std.specs.Cmp.Lexicographic.{nat_list_eq_equiv, pointwise};
 ghost use Rattle.ini_multimap.specs.Keys.{text_code};
 ghost use Rattle.ini_multimap.specs.KeyLaws.{text_code-eq};
 
+use crate::show::{expect, numbered};
 use ini_multimap::{MapKey, Multimap};
 use std::cell::Cell;
-use std::panic::Expect;
 use std::process::Abort;
 
 /// A text that counts the calls of `code` and `==`, together with the other keys that share the count.
 #[derive(Drop)]
-pub(super) struct Key<'a> {
+struct Key<'a> {
     text: String,
     calls: &'a Cell<u32>,
 }
@@ -52,7 +53,7 @@ impl MapKey for Key<'_> {
 }
 
 /// Pairs whose keys share a count.
-pub(super) type Map<'a> = Multimap<Key<'a>, u32>;
+type Map<'a> = Multimap<Key<'a>, u32>;
 
 /// How many pairs there are.
 const PAIRS: u32 = 2000;
@@ -60,22 +61,9 @@ const PAIRS: u32 = 2000;
 /// How many calls of `code` and `==` a call of the multimap may make.
 const FEW: u32 = 8;
 
-// A number as a text of four digits; no two have one code.
-fn counted<'a>(rt: &(impl Abort + AllocGlobal), calls: &'a Cell<u32>, number: u32) -> Key<'a> {
-    let text = format!(in rt.alloc(); "{}", number.wrapping_add(1000)).expect(rt, "memory");
-    Key { text, calls }
-}
-
-// Asks that at most so many calls were made, and counts from 0 again.
-fn expect_at_most(rt: &impl Abort, calls: &Cell<u32>, most: u32, of: &str) {
-    let made = calls.get();
-    calls.set(0);
-    assert!(rt; made <= most, "{of}: {made} calls");
-}
-
 /// A call at the key of a number.
-#[derive(Debug, Clone, Copy)]
-pub(super) enum Call {
+#[derive(Clone, Copy)]
+enum Call {
     /// Answers the number, which is the value.
     Append,
     /// The same, by `append_unindexed`.
@@ -91,6 +79,11 @@ pub(super) enum Call {
     GetMut,
     /// `get_nth_mut` of the second pair.
     GetSecond,
+    /// Answers 0.
+    MakeIndex,
+    /// Answers how many keys there are, by a walk over them.
+    Keys,
+    LenKeys,
 }
 
 // A value that is lent for writing.
@@ -101,203 +94,113 @@ fn lent(value: Option<&mut u32>) -> Option<u32> {
     }
 }
 
-// A number of values.
-fn many(count: usize) -> Option<u32> {
-    u32::try_from(count).ok()
-}
-
-// Puts the pair last.
-fn append<'a>(map: &mut Map<'a>, key: Key<'a>, value: u32) -> Option<u32> {
-    match map.append(key, value) {
-        Ok(()) => Some(value),
-        Err(_) => None,
-    }
-}
-
-// The same, without an index where there is none yet.
-fn append_unindexed<'a>(map: &mut Map<'a>, key: Key<'a>, value: u32) -> Option<u32> {
-    match map.append_unindexed(key, value) {
-        Ok(()) => Some(value),
-        Err(_) => None,
-    }
-}
-
-// Inserts the pair.
-fn insert<'a>(map: &mut Map<'a>, key: Key<'a>, value: u32) -> Option<u32> {
-    match map.insert(key, value) {
-        Ok(_) => Some(value),
-        Err(_) => None,
-    }
-}
-
-// Takes out all pairs of the key.
-fn remove_all<'a>(map: &mut Map<'a>, key: &Key<'a>) -> Option<u32> {
-    match map.remove_all(key) {
-        Ok(removed) => many(removed.count()),
-        Err(_) => None,
-    }
-}
-
 // Makes the call at the key, which is the one of the number.
 fn ask<'a>(map: &mut Map<'a>, call: Call, key: Key<'a>, number: u32) -> Option<u32> {
     match call {
-        Call::Append => append(map, key, number),
-        Call::AppendUnindexed => append_unindexed(map, key, number),
-        Call::Insert => insert(map, key, number),
+        Call::Append => map.append(key, number).is_ok().then_some(number),
+        Call::AppendUnindexed => map.append_unindexed(key, number).is_ok().then_some(number),
+        Call::Insert => map.insert(key, number).is_ok().then_some(number),
         Call::Remove => map.remove(&key),
-        Call::RemoveAll => remove_all(map, &key),
+        Call::RemoveAll => match map.remove_all(&key) {
+            Ok(removed) => u32::try_from(removed.count()).ok(),
+            Err(_) => None,
+        },
         Call::Get => map.get(&key).copied(),
-        Call::GetAll => many(map.get_all(&key).count()),
+        Call::GetAll => u32::try_from(map.get_all(&key).count()).ok(),
         Call::GetMut => lent(map.get_mut(&key)),
         Call::GetSecond => lent(map.get_nth_mut(&key, 1)),
+        Call::MakeIndex => map.make_index().is_ok().then_some(0),
+        Call::Keys => u32::try_from(map.keys().count()).ok(),
+        Call::LenKeys => u32::try_from(map.len_keys()).ok(),
     }
 }
 
-/// A call at the key of a number, and what it answers.
-pub(super) type Row = (Call, u32, Option<u32>);
-
-/// Asks that the call answers so, by at most so many calls of `code` and `==`.
-pub(super) fn expect_few<'a>(
-    rt: &(impl Abort + AllocGlobal),
-    calls: &'a Cell<u32>,
-    map: &mut Map<'a>,
-    (call, number, want): Row,
-    most: u32,
-) {
-    let key = counted(rt, calls, number);
-    calls.set(0);
-    let got = ask(map, call, key, number);
-    let made = calls.get();
-    assert!(rt; got == want, "{call:?} {number}: {got:?}");
-    assert!(rt; made <= most, "{call:?} {number}: {made} calls");
+/// What calls answer.
+#[derive(Clone, Copy)]
+enum Gives {
+    /// The key's number.
+    Number,
+    Nothing,
+    /// This one.
+    Count(u32),
 }
 
-/// Makes the call at so many keys, from number `first` on, where each answers its number.
-pub(super) fn each<'a>(
+/// A call, the keys from one number up to another that it is made at, what it answers, and how many calls of
+/// `code` and `==` it makes at most, at all keys.
+type Row = (Call, u32, u32, Gives, u32);
+
+/// Asks that the calls answer so, by at most so many calls of `code` and `==`, whose number it answers.
+fn expect_few<'a>(
     rt: &(impl Abort + AllocGlobal),
     calls: &'a Cell<u32>,
     map: &mut Map<'a>,
-    call: Call,
-    first: u32,
+    (call, first, end, gives, most): Row,
+) -> u32 {
+    calls.set(0);
+    for number in first..end {
+        let text = numbered(rt, "@", number.wrapping_add(1000), 1);
+        let want = match gives {
+            Gives::Number => Some(number),
+            Gives::Nothing => None,
+            Gives::Count(count) => Some(count),
+        };
+        let key = Key { text, calls };
+        expect(
+            rt,
+            ask(map, call, key, number) == want,
+            "number",
+            number as usize,
+        );
+    }
+    let made = calls.get();
+    expect(rt, made <= most, "calls", made as usize);
+    made
+}
+
+/// Look-ups among many pairs, of a key that is there and of one that isn't.
+const LOOKS: [Row; 5] = [
+    (Call::Get, 1900, 1901, Gives::Number, FEW),
+    (Call::Get, 5000, 5001, Gives::Nothing, FEW),
+    (Call::GetAll, 1900, 1901, Gives::Count(1), FEW),
+    (Call::GetMut, 1900, 1901, Gives::Number, FEW),
+    (Call::GetSecond, 1900, 1901, Gives::Nothing, FEW),
+];
+
+/// Edits that leave as many pairs.
+const EDITS: [Row; 4] = [
+    (Call::Insert, 1900, 1901, Gives::Number, 2 * FEW),
+    (Call::Insert, 6000, 6001, Gives::Number, 2 * FEW),
+    (Call::Remove, 6000, 6001, Gives::Number, FEW),
+    (Call::RemoveAll, 6000, 6001, Gives::Count(0), FEW),
+];
+
+/// What is done with the pairs.
+#[derive(Clone, Copy)]
+enum Step {
+    Clear,
+    Row(Row),
+    /// Look-ups, and walks over so many keys.
+    Looks(u32),
+    Edits,
+    /// The keys from one number up to another are asked for, each by one call of `code` and one of `==`.
+    Two(u32, u32),
+    /// A pair is appended and taken out, so many times.
+    InAndOut(u32),
+}
+
+// Looks keys up, and walks over them, of which there are so many.
+fn expect_looks<'a>(
+    rt: &(impl Abort + AllocGlobal),
+    calls: &'a Cell<u32>,
+    map: &mut Map<'a>,
     count: u32,
 ) {
-    for number in 0..count {
-        let number = first.wrapping_add(number);
-        let got = ask(map, call, counted(rt, calls, number), number);
-        assert!(rt; got == Some(number), "{call:?} {number}: {got:?}");
+    for row in LOOKS {
+        expect_few(rt, calls, map, row);
     }
-}
-
-// Asks for a key that is there, and for one that isn't.
-fn expect_few_for_looks<'a>(
-    rt: &(impl Abort + AllocGlobal),
-    calls: &'a Cell<u32>,
-    map: &mut Map<'a>,
-) {
-    for row in [
-        (Call::Get, 1900, Some(1900)),
-        (Call::Get, 5000, None),
-        (Call::GetAll, 1900, Some(1)),
-    ] {
-        expect_few(rt, calls, map, row, FEW);
-    }
-}
-
-// The same of look-ups for writing.
-fn expect_few_for_writing<'a>(
-    rt: &(impl Abort + AllocGlobal),
-    calls: &'a Cell<u32>,
-    map: &mut Map<'a>,
-) {
-    for row in [
-        (Call::GetMut, 1900, Some(1900)),
-        (Call::GetSecond, 1900, None),
-    ] {
-        expect_few(rt, calls, map, row, FEW);
-    }
-}
-
-// The same of edits; the pairs are as many as before.
-fn expect_few_for_edits<'a>(
-    rt: &(impl Abort + AllocGlobal),
-    calls: &'a Cell<u32>,
-    map: &mut Map<'a>,
-) {
-    for (row, most) in [
-        ((Call::Insert, 1900, Some(1900)), 2 * FEW),
-        ((Call::Insert, 6000, Some(6000)), 2 * FEW),
-        ((Call::Remove, 6000, Some(6000)), FEW),
-        ((Call::RemoveAll, 6000, Some(0)), FEW),
-    ] {
-        expect_few(rt, calls, map, row, most);
-    }
-}
-
-// The same of each key of a walk over the keys.
-fn expect_few_for_keys(rt: &impl Abort, calls: &Cell<u32>, map: &Map<'_>, count: u32) {
-    calls.set(0);
-    assert!(rt; map.keys().count() == count as usize);
-    expect_at_most(rt, calls, FEW.saturating_mul(count), "keys");
-    assert!(rt; map.len_keys() == count as usize);
-    expect_at_most(rt, calls, FEW.saturating_mul(count), "len_keys");
-}
-
-#[test]
-fn calls_on_many_pairs_ask_few_keys(rt: HostRuntime) {
-    let calls = Cell::new(0);
-    let mut map: Map<'_> = Multimap::new(rt.alloc());
-    each(&rt, &calls, &mut map, Call::Append, 0, PAIRS);
-    expect_at_most(&rt, &calls, FEW * PAIRS, "append");
-    expect_few_for_looks(&rt, &calls, &mut map);
-    expect_few_for_writing(&rt, &calls, &mut map);
-    expect_few_for_edits(&rt, &calls, &mut map);
-    expect_few_for_keys(&rt, &calls, &map, PAIRS);
-}
-
-// An append without an index asks the first keys for their codes, and no others. Where there is one, the pair
-// goes into it.
-#[test]
-fn an_index_that_is_made_once_asks_few_keys(rt: HostRuntime) {
-    let calls = Cell::new(0);
-    let mut map: Map<'_> = Multimap::new(rt.alloc());
-    each(&rt, &calls, &mut map, Call::AppendUnindexed, 0, 1000);
-    expect_at_most(&rt, &calls, 16, "append_unindexed");
-    assert!(rt; map.make_index().is_ok());
-    expect_at_most(&rt, &calls, 1000, "make_index");
-    assert!(rt; map.make_index().is_ok());
-    expect_at_most(&rt, &calls, 0, "make_index again");
-    each(&rt, &calls, &mut map, Call::AppendUnindexed, 1000, 1000);
-    expect_at_most(&rt, &calls, FEW * 1000, "append_unindexed after an index");
-    expect_few_for_looks(&rt, &calls, &mut map);
-    expect_few_for_keys(&rt, &calls, &map, PAIRS);
-}
-
-#[test]
-fn an_append_makes_the_index_of_all_pairs(rt: HostRuntime) {
-    let calls = Cell::new(0);
-    let mut map: Map<'_> = Multimap::new(rt.alloc());
-    each(&rt, &calls, &mut map, Call::AppendUnindexed, 0, PAIRS - 1);
-    expect_at_most(&rt, &calls, 16, "append_unindexed");
-    each(&rt, &calls, &mut map, Call::Append, PAIRS - 1, 1);
-    expect_at_most(&rt, &calls, PAIRS, "append");
-    expect_few_for_looks(&rt, &calls, &mut map);
-    expect_few_for_keys(&rt, &calls, &map, PAIRS);
-}
-
-// Holes are closed when half of the pairs are out; the pairs that are left stay few to ask.
-#[test]
-fn calls_on_what_removals_leave_ask_few_keys(rt: HostRuntime) {
-    let calls = Cell::new(0);
-    let mut map: Map<'_> = Multimap::new(rt.alloc());
-    each(&rt, &calls, &mut map, Call::Append, 0, PAIRS);
-    for gone in [600, 1000, 1001, 1002, 1800] {
-        let left = PAIRS.saturating_sub(gone);
-        map.clear();
-        each(&rt, &calls, &mut map, Call::Append, 0, PAIRS);
-        each(&rt, &calls, &mut map, Call::Remove, 0, gone);
-        expect_at_most(&rt, &calls, 2 * FEW * PAIRS, "append and remove");
-        expect_few_for_looks(&rt, &calls, &mut map);
-        expect_few_for_keys(&rt, &calls, &map, left);
+    let most = FEW.saturating_mul(count);
+    for call in [Call::Keys, Call::LenKeys] {
+        expect_few(rt, calls, map, (call, 0, 1, Gives::Count(count), most));
     }
 }
 
@@ -308,23 +211,133 @@ fn append_and_remove<'a>(
     map: &mut Map<'a>,
     times: u32,
 ) {
+    let mut made: u32 = 0;
     for number in 0..times {
         let number = 3000 + number % 5000;
-        each(rt, calls, map, Call::Append, number, 1);
-        each(rt, calls, map, Call::Remove, number, 1);
+        for call in [Call::Append, Call::Remove] {
+            let row = (
+                call,
+                number,
+                number.wrapping_add(1),
+                Gives::Number,
+                u32::MAX,
+            );
+            made = made.saturating_add(expect_few(rt, calls, map, row));
+        }
+    }
+    expect(
+        rt,
+        made <= times.saturating_mul(2 * FEW),
+        "append and remove",
+        made as usize,
+    );
+}
+
+// Takes a step.
+fn take<'a>(rt: &(impl Abort + AllocGlobal), calls: &'a Cell<u32>, map: &mut Map<'a>, step: Step) {
+    match step {
+        Step::Clear => map.clear(),
+        Step::Row(row) => {
+            expect_few(rt, calls, map, row);
+        }
+        Step::Looks(count) => expect_looks(rt, calls, map, count),
+        Step::Edits => {
+            for row in EDITS {
+                expect_few(rt, calls, map, row);
+            }
+        }
+        Step::Two(first, end) => {
+            for number in first..end {
+                let row = (Call::Get, number, number.wrapping_add(1), Gives::Number, 2);
+                expect_few(rt, calls, map, row);
+            }
+        }
+        Step::InAndOut(times) => append_and_remove(rt, calls, map, times),
     }
 }
 
-#[test]
-fn calls_after_many_appends_and_removals_ask_few_keys(rt: HostRuntime) {
+/// An append without an index asks the first keys for their codes, and no others.
+const INDEXED: [Step; 4] = [
+    Step::Row((Call::Append, 0, PAIRS, Gives::Number, FEW * PAIRS)),
+    Step::Looks(PAIRS),
+    Step::Edits,
+    Step::Looks(PAIRS),
+];
+
+/// The same after pairs went in and out.
+const IN_AND_OUT: [Step; 5] = [
+    Step::Row((Call::Append, 0, PAIRS, Gives::Number, FEW * PAIRS)),
+    Step::InAndOut(100_000),
+    Step::Looks(PAIRS),
+    Step::Edits,
+    Step::Looks(PAIRS),
+];
+
+/// An index is made of pairs that have none, and further ones stay out of it.
+const INDEXED_LATER: [Step; 5] = [
+    Step::Row((Call::AppendUnindexed, 0, 1000, Gives::Number, 16)),
+    Step::Row((Call::MakeIndex, 0, 1, Gives::Count(0), 1000)),
+    Step::Row((Call::MakeIndex, 0, 1, Gives::Count(0), 0)),
+    Step::Row((
+        Call::AppendUnindexed,
+        1000,
+        PAIRS,
+        Gives::Number,
+        FEW * 1000,
+    )),
+    Step::Looks(PAIRS),
+];
+
+/// Where there is an index, the pair goes into it, and those before it too.
+const LAST_INDEXED: [Step; 3] = [
+    Step::Row((Call::AppendUnindexed, 0, PAIRS - 1, Gives::Number, 16)),
+    Step::Row((Call::Append, PAIRS - 1, PAIRS, Gives::Number, PAIRS)),
+    Step::Looks(PAIRS),
+];
+
+/// The keys differ in the low byte of their codes. Where a hole has it, those after it are compared, until
+/// holes are closed.
+const ON_FEW: [Step; 9] = [
+    Step::Row((Call::Append, 0, 16, Gives::Number, u32::MAX)),
+    Step::Two(0, 16),
+    Step::Row((Call::Get, 16, 17, Gives::Nothing, 1)),
+    Step::Row((Call::Remove, 0, 7, Gives::Number, u32::MAX)),
+    Step::Two(7, 16),
+    Step::Row((Call::Get, 6, 7, Gives::Nothing, 10)),
+    Step::Row((Call::Remove, 7, 9, Gives::Number, u32::MAX)),
+    Step::Two(9, 16),
+    Step::Row((Call::Get, 8, 9, Gives::Nothing, 1)),
+];
+
+// Takes the steps on a multimap of their own.
+fn take_all(rt: &(impl Abort + AllocGlobal), steps: &[Step]) {
     let calls = Cell::new(0);
     let mut map: Map<'_> = Multimap::new(rt.alloc());
-    each(&rt, &calls, &mut map, Call::Append, 0, PAIRS);
-    calls.set(0);
-    append_and_remove(&rt, &calls, &mut map, 100_000);
-    expect_at_most(&rt, &calls, 2 * FEW * 100_000, "append and remove");
-    expect_few_for_looks(&rt, &calls, &mut map);
-    expect_few_for_writing(&rt, &calls, &mut map);
-    expect_few_for_edits(&rt, &calls, &mut map);
-    expect_few_for_keys(&rt, &calls, &map, PAIRS);
+    for step in steps {
+        take(rt, &calls, &mut map, *step);
+    }
+}
+
+// Holes are closed when half of the pairs are out; the pairs that are left stay few to ask.
+fn take_out(rt: &(impl Abort + AllocGlobal), gone: u32) {
+    let steps = [
+        Step::Row((Call::Append, 0, PAIRS, Gives::Number, FEW * PAIRS)),
+        Step::Clear,
+        Step::Row((Call::Append, 0, PAIRS, Gives::Number, FEW * PAIRS)),
+        Step::Row((Call::Remove, 0, gone, Gives::Number, FEW * PAIRS)),
+        Step::Looks(PAIRS.saturating_sub(gone)),
+    ];
+    take_all(rt, &steps);
+}
+
+#[test]
+fn calls_ask_few_keys(rt: HostRuntime) {
+    take_all(&rt, &INDEXED);
+    take_all(&rt, &IN_AND_OUT);
+    take_all(&rt, &INDEXED_LATER);
+    take_all(&rt, &LAST_INDEXED);
+    take_all(&rt, &ON_FEW);
+    for gone in [600, 1000, 1001, 1002, 1800] {
+        take_out(&rt, gone);
+    }
 }

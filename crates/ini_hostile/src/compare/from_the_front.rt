@@ -17,29 +17,34 @@ fn numbers(rt: &(impl Abort + AllocGlobal)) -> Multimap<String, u32> {
     map
 }
 
-// Takes out the pair of a key, which has that value.
-fn remove(rt: &impl Abort, map: &mut Multimap<String, u32>, key: &str, want: u32) {
-    assert!(rt; map.remove(key) == Some(want));
+// The first key, by the walk over the keys or over the pairs.
+fn first(map: &Multimap<String, u32>, of_keys: bool) -> Option<&String> {
+    if of_keys {
+        return map.keys().next();
+    }
+    match map.iter().next() {
+        Some((key, _)) => Some(key),
+        None => None,
+    }
+}
+
+// Takes out each first pair.
+fn take_out(rt: &(impl Abort + AllocGlobal), of_keys: bool) {
+    let mut map = numbers(rt);
+    for number in 0..PAIRS {
+        let key = first(&map, of_keys).expect(rt, "a pair");
+        let key = key.clone().expect(rt, "memory");
+        assert!(rt; map.remove(key.as_str()) == Some(number));
+    }
+    assert!(rt; map.is_empty());
 }
 
 #[test]
 fn each_first_pair_of_a_million_is_taken_out(rt: HostRuntime) {
-    let mut map = numbers(&rt);
-    for number in 0..PAIRS {
-        let (key, _) = map.iter().next().expect(&rt, "a pair");
-        let key = key.clone().expect(&rt, "memory");
-        remove(&rt, &mut map, key.as_str(), number);
-    }
-    assert!(rt; map.is_empty());
+    take_out(&rt, false);
 }
 
 #[test]
 fn each_first_key_of_a_million_is_taken_out(rt: HostRuntime) {
-    let mut map = numbers(&rt);
-    for number in 0..PAIRS {
-        let key = map.keys().next().expect(&rt, "a key");
-        let key = key.clone().expect(&rt, "memory");
-        remove(&rt, &mut map, key.as_str(), number);
-    }
-    assert!(rt; map.is_empty());
+    take_out(&rt, true);
 }

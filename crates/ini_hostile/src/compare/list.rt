@@ -12,7 +12,7 @@ use std::panic::Expect;
 use std::process::Abort;
 
 /// Pairs of a key and a number in the order of insertion. Seen as the list of its pairs.
-#[derive(Debug, Drop)]
+#[derive(Drop)]
 pub struct PlainList<K> {
     pairs: Vec<(K, u32)>,
 }
@@ -140,36 +140,25 @@ impl<K: MapKey + Drop> PlainList<K> {
         }
     }
 
-    // Sets the last value, and answers the old one.
-    fn set_last(&mut self, value: u32) -> Option<u32> {
-        let last = self.pairs.len().saturating_sub(1);
-        self.set_at(last, value)
-    }
-
-    // Puts the pair last.
-    fn put(&mut self, rt: &impl Abort, key: K, value: u32) -> Option<usize> {
-        self.append(key, value).expect(rt, "memory");
-        Some(0)
-    }
-
-    // How many keys there are.
-    fn len_keys(&self, rt: &impl Abort) -> usize {
-        self.key_places().expect(rt, "memory").len()
-    }
-
     /// Answers the call as the multimap is to answer it.
     pub fn ask(&mut self, rt: &impl Abort, call: Call, key: K) -> Option<usize> {
         match call {
-            Call::Append(value) | Call::AppendUnindexed(value) => self.put(rt, key, value),
+            Call::Append(value) | Call::AppendUnindexed(value) => {
+                self.append(key, value).expect(rt, "memory");
+                Some(0)
+            }
             Call::MakeIndex => Some(0),
             Call::Insert(value) => number(self.insert(key, value).expect(rt, "memory")),
             Call::Remove => number(self.remove(&key)),
             Call::Get => number(self.get(&key)),
             Call::SetFirst(value) => number(self.set_nth(rt, &key, 0, value)),
             Call::SetNth(n, value) => number(self.set_nth(rt, &key, n, value)),
-            Call::SetLast(value) => number(self.set_last(value)),
+            Call::SetLast(value) => {
+                let last = self.pairs.len().saturating_sub(1);
+                number(self.set_at(last, value))
+            }
             Call::LenPairs => Some(self.pairs.len()),
-            Call::LenKeys => Some(self.len_keys(rt)),
+            Call::LenKeys => Some(self.key_places().expect(rt, "memory").len()),
             Call::IsEmpty => Some(usize::from(self.pairs.is_empty())),
             Call::Clear => {
                 self.pairs.clear();

@@ -2,66 +2,35 @@
 use super::TextKey;
 use super::both::Both;
 use super::calls::Call;
+use crate::show::numbered;
 use crate::{Flat, NoCase};
 use ini_multimap::Probe;
 use std::panic::Expect;
 use std::process::Abort;
 
-// Adds so many texts, each the word and its number.
-fn add_texts(rt: &(impl Abort + AllocGlobal), texts: &mut Vec<String>, word: &str, len: u32) {
-    for number in 0..len {
-        let text = format!(in rt.alloc(); "{word} {number}").expect(rt, "memory");
-        texts.push(text).expect(rt, "memory");
-    }
-}
-
-// So many texts, no two of which agree without case.
-fn texts(rt: &(impl Abort + AllocGlobal), len: u32) -> Vec<String> {
+// So many texts of each word and a number.
+fn texts(rt: &(impl Abort + AllocGlobal), words: &[&str], count: u32) -> Vec<String> {
     let mut texts = Vec::new(rt.alloc());
-    add_texts(rt, &mut texts, "Key", len);
+    for word in words {
+        for number in 0..count {
+            texts
+                .push(numbered(rt, word, number, 1))
+                .expect(rt, "memory");
+        }
+    }
     texts
 }
 
-// The same, and each again in the other case.
-fn texts_in_both_cases(rt: &(impl Abort + AllocGlobal), len: u32) -> Vec<String> {
-    let mut texts = texts(rt, len);
-    add_texts(rt, &mut texts, "kEY", len);
-    texts
-}
-
-// One thousand keys are appended, each third is taken out, each fifth is inserted anew.
-fn compare<'t, K: TextKey>(rt: &(impl Abort + AllocGlobal), texts: &'t [String])
+// One thousand keys are appended, each third is taken out, the index is made over what that leaves where
+// there is none yet, each fifth is inserted anew or each fourth appended again.
+fn compare<'t, K: TextKey>(rt: &(impl Abort + AllocGlobal), texts: &'t [String], indexed: bool)
 where
     &'t str: Probe<K>,
 {
     let mut both: Both<K> = Both::new(rt.alloc());
     for (number, text) in (0..).zip(texts) {
-        both.call(rt, Call::Append(number), text.as_str());
-    }
-    for text in texts.iter().step_by(3) {
-        both.call(rt, Call::Remove, text.as_str());
-    }
-    both.same_walks(rt, "");
-    for (number, text) in (0..).zip(texts).step_by(5) {
-        both.call(rt, Call::Insert(number), text.as_str());
-    }
-    both.same_walks(rt, "");
-    for text in texts {
-        both.look_up(rt, text.as_str());
-        both.look_up_key(rt, text.as_str());
-    }
-    both.same_items(rt);
-}
-
-// One thousand keys are appended without an index, each third is taken out, the index is made over what that
-// leaves, and each fourth key is appended again.
-fn compare_unindexed<'t, K: TextKey>(rt: &(impl Abort + AllocGlobal), texts: &'t [String])
-where
-    &'t str: Probe<K>,
-{
-    let mut both: Both<K> = Both::new(rt.alloc());
-    for (number, text) in (0..).zip(texts) {
-        both.call(rt, Call::AppendUnindexed(number), text.as_str());
+        let (append, unindexed) = (Call::Append(number), Call::AppendUnindexed(number));
+        both.call(rt, if indexed { append } else { unindexed }, text.as_str());
     }
     both.same_walks(rt, "");
     for text in texts.iter().step_by(3) {
@@ -69,8 +38,13 @@ where
     }
     both.call(rt, Call::MakeIndex, "");
     both.same_walks(rt, "");
-    for (number, text) in (0..).zip(texts).step_by(4) {
-        both.call(rt, Call::AppendUnindexed(number), text.as_str());
+    for (number, text) in (0..).zip(texts) {
+        if indexed && number % 5 == 0 {
+            both.call(rt, Call::Insert(number), text.as_str());
+        }
+        if !indexed && number % 4 == 0 {
+            both.call(rt, Call::AppendUnindexed(number), text.as_str());
+        }
     }
     both.same_walks(rt, "");
     for text in texts {
@@ -80,44 +54,8 @@ where
     both.same_items(rt);
 }
 
-#[test]
-fn texts_without_an_index_are_compared(rt: HostRuntime) {
-    let texts = texts_in_both_cases(&rt, 500);
-    compare_unindexed::<String>(&rt, texts.as_slice());
-}
-
-#[test]
-fn keys_of_one_code_without_an_index_are_compared(rt: HostRuntime) {
-    let texts = texts_in_both_cases(&rt, 500);
-    compare_unindexed::<Flat>(&rt, texts.as_slice());
-}
-
-#[test]
-fn keys_without_case_and_index_are_compared(rt: HostRuntime) {
-    let texts = texts_in_both_cases(&rt, 500);
-    compare_unindexed::<NoCase>(&rt, texts.as_slice());
-}
-
-#[test]
-fn texts_are_compared(rt: HostRuntime) {
-    let texts = texts(&rt, 1000);
-    compare::<String>(&rt, texts.as_slice());
-}
-
-#[test]
-fn keys_of_one_code_are_compared(rt: HostRuntime) {
-    let texts = texts(&rt, 1000);
-    compare::<Flat>(&rt, texts.as_slice());
-}
-
-#[test]
-fn keys_without_case_are_compared(rt: HostRuntime) {
-    let texts = texts(&rt, 1000);
-    compare::<NoCase>(&rt, texts.as_slice());
-}
-
 /// A fixed generator: Knuth's multiplier for words of 64 bits, of which the upper bits are used.
-#[derive(Debug, Drop)]
+#[derive(Drop)]
 struct Chance {
     state: u64,
 }
@@ -144,21 +82,22 @@ fn call<'t, K: TextKey>(
 where
     &'t str: Probe<K>,
 {
-    match chance.below(1000) {
-        0 => both.call(rt, Call::Clear, text),
-        1..20 => both.call(rt, Call::SetLast(value), text),
-        20..150 => both.call(rt, Call::Append(value), text),
-        150..290 => both.call(rt, Call::AppendUnindexed(value), text),
-        290..300 => both.call(rt, Call::MakeIndex, text),
-        300..500 => both.call(rt, Call::Insert(value), text),
-        500..650 => both.call(rt, Call::Remove, text),
-        650..750 => both.remove_all(rt, text),
-        750..800 => both.call(rt, Call::SetFirst(value), text),
-        800..850 => both.call(rt, Call::SetNth(chance.below(4), value), text),
-        850..900 => both.set_all(rt, text, value),
-        900..950 => both.look_up(rt, text),
-        _ => both.look_up_key(rt, text),
-    }
+    let drawn = match chance.below(1000) {
+        0 => Call::Clear,
+        1..20 => Call::SetLast(value),
+        20..150 => Call::Append(value),
+        150..290 => Call::AppendUnindexed(value),
+        290..300 => Call::MakeIndex,
+        300..500 => Call::Insert(value),
+        500..650 => Call::Remove,
+        650..750 => return both.remove_all(rt, text),
+        750..800 => Call::SetFirst(value),
+        800..850 => Call::SetNth(chance.below(4), value),
+        850..900 => return both.set_all(rt, text, value),
+        900..950 => return both.look_up(rt, text),
+        _ => return both.look_up_key(rt, text),
+    };
+    both.call(rt, drawn, text);
 }
 
 // Twenty thousand calls over the texts, with the walks compared every hundred calls.
@@ -180,38 +119,33 @@ where
     both.same_items(rt);
 }
 
-#[test]
-fn calls_over_few_texts(rt: HostRuntime) {
-    let texts = texts_in_both_cases(&rt, 8);
-    run::<String>(&rt, texts.as_slice());
+/// Texts that agree without case with none of the others, and texts that do.
+const WORD: [&'static str; 1] = ["Key @"];
+
+const CASES: [&'static str; 2] = ["Key @", "kEY @"];
+
+// All comparisons over one type of keys.
+fn compare_all<'t, K: TextKey>(
+    rt: &(impl Abort + AllocGlobal),
+    (thousand, halves): (&'t [String], &'t [String]),
+    (few, many): (&'t [String], &'t [String]),
+)
+where
+    &'t str: Probe<K>,
+{
+    compare::<K>(rt, thousand, true);
+    compare::<K>(rt, halves, false);
+    run::<K>(rt, few);
+    run::<K>(rt, many);
 }
 
 #[test]
-fn calls_over_few_keys_of_one_code(rt: HostRuntime) {
-    let texts = texts_in_both_cases(&rt, 8);
-    run::<Flat>(&rt, texts.as_slice());
-}
-
-#[test]
-fn calls_over_few_keys_without_case(rt: HostRuntime) {
-    let texts = texts_in_both_cases(&rt, 8);
-    run::<NoCase>(&rt, texts.as_slice());
-}
-
-#[test]
-fn calls_over_many_texts(rt: HostRuntime) {
-    let texts = texts_in_both_cases(&rt, 100);
-    run::<String>(&rt, texts.as_slice());
-}
-
-#[test]
-fn calls_over_many_keys_of_one_code(rt: HostRuntime) {
-    let texts = texts_in_both_cases(&rt, 100);
-    run::<Flat>(&rt, texts.as_slice());
-}
-
-#[test]
-fn calls_over_many_keys_without_case(rt: HostRuntime) {
-    let texts = texts_in_both_cases(&rt, 100);
-    run::<NoCase>(&rt, texts.as_slice());
+fn keys_of_each_type_are_compared(rt: HostRuntime) {
+    let (thousand, halves) = (texts(&rt, &WORD, 1000), texts(&rt, &CASES, 500));
+    let (few, many) = (texts(&rt, &CASES, 8), texts(&rt, &CASES, 100));
+    let compared = (thousand.as_slice(), halves.as_slice());
+    let drawn = (few.as_slice(), many.as_slice());
+    compare_all::<String>(&rt, compared, drawn);
+    compare_all::<Flat>(&rt, compared, drawn);
+    compare_all::<NoCase>(&rt, compared, drawn);
 }

@@ -1,32 +1,17 @@
 //! Walks of a multimap under one trait, read from either end or from both in turn.
 use super::TextKey;
 use super::list::PlainList;
+use crate::show::expect;
 use ini_multimap::{IntoIter, Iter, IterMut, Keys, Multimap, Probe, Removed, Values, ValuesMut};
 use std::process::Abort;
 
 /// The key and the value of an item that is wanted, or none where the walk is to have ended.
 pub type Wanted<'w> = Option<(&'w str, u32)>;
 
-// Whether this pair is wanted.
-fn is_pair(want: Wanted<'_>, key: &str, value: u32) -> bool {
+// Whether an item with this key and this value is wanted, as far as it has them.
+fn is_wanted(want: Wanted<'_>, key: Option<&str>, value: Option<u32>) -> bool {
     match want {
-        Some(want) => want.0 == key && want.1 == value,
-        None => false,
-    }
-}
-
-// Whether a pair with this key is wanted.
-fn is_key(want: Wanted<'_>, key: &str) -> bool {
-    match want {
-        Some(want) => want.0 == key,
-        None => false,
-    }
-}
-
-// Whether a pair with this value is wanted.
-fn is_value(want: Wanted<'_>, value: u32) -> bool {
-    match want {
-        Some(want) => want.1 == value,
+        Some(want) => key.unwrap_or(want.0) == want.0 && value.unwrap_or(want.1) == want.1,
         None => false,
     }
 }
@@ -53,7 +38,7 @@ pub trait Walk: Drop {
 impl<K: TextKey> Walk for Iter<'_, K, u32> {
     fn gives(&mut self, from_back: bool, want: Wanted<'_>) -> bool {
         match take(self, from_back) {
-            Some((key, value)) => is_pair(want, key.text(), *value),
+            Some((key, value)) => is_wanted(want, Some(key.text()), Some(*value)),
             None => want.is_none(),
         }
     }
@@ -62,7 +47,7 @@ impl<K: TextKey> Walk for Iter<'_, K, u32> {
 impl<K: TextKey> Walk for IterMut<'_, K, u32> {
     fn gives(&mut self, from_back: bool, want: Wanted<'_>) -> bool {
         match take(self, from_back) {
-            Some((key, value)) => is_pair(want, key.text(), *value),
+            Some((key, value)) => is_wanted(want, Some(key.text()), Some(*value)),
             None => want.is_none(),
         }
     }
@@ -71,7 +56,7 @@ impl<K: TextKey> Walk for IterMut<'_, K, u32> {
 impl<K: TextKey> Walk for IntoIter<K, u32> {
     fn gives(&mut self, from_back: bool, want: Wanted<'_>) -> bool {
         match take(self, from_back) {
-            Some((key, value)) => is_pair(want, key.text(), value),
+            Some((key, value)) => is_wanted(want, Some(key.text()), Some(value)),
             None => want.is_none(),
         }
     }
@@ -80,7 +65,7 @@ impl<K: TextKey> Walk for IntoIter<K, u32> {
 impl<K: TextKey> Walk for Keys<'_, K, u32> {
     fn gives(&mut self, from_back: bool, want: Wanted<'_>) -> bool {
         match take(self, from_back) {
-            Some(key) => is_key(want, key.text()),
+            Some(key) => is_wanted(want, Some(key.text()), None),
             None => want.is_none(),
         }
     }
@@ -95,7 +80,7 @@ impl<K: TextKey, Q: Probe<K> + Copy> Walk for Values<'_, K, u32, Q> {
             self.next()
         };
         match item {
-            Some(value) => is_value(want, *value),
+            Some(value) => is_wanted(want, None, Some(*value)),
             None => want.is_none(),
         }
     }
@@ -110,7 +95,7 @@ impl<K: TextKey, Q: Probe<K> + Copy> Walk for ValuesMut<'_, K, u32, Q> {
             self.next()
         };
         match item {
-            Some(value) => is_value(want, *value),
+            Some(value) => is_wanted(want, None, Some(*value)),
             None => want.is_none(),
         }
     }
@@ -119,7 +104,7 @@ impl<K: TextKey, Q: Probe<K> + Copy> Walk for ValuesMut<'_, K, u32, Q> {
 impl Walk for Removed<u32> {
     fn gives(&mut self, from_back: bool, want: Wanted<'_>) -> bool {
         match take(self, from_back) {
-            Some(value) => is_value(want, value),
+            Some(value) => is_wanted(want, None, Some(value)),
             None => want.is_none(),
         }
     }
@@ -130,12 +115,12 @@ impl Walk for Removed<u32> {
 pub fn expect_walk<W: Walk>(rt: &impl Abort, walk: &mut W, ends: &str, want: &[(&str, u32)]) {
     for (turn, end) in ends.bytes().enumerate() {
         let same = walk.gives(end == b'b', want.get(turn).copied());
-        assert!(rt; same, "{ends} at {turn}");
+        expect(rt, same, ends, turn);
     }
 }
 
 /// From which end a walk is read.
-#[derive(Debug, Clone, Copy)]
+#[derive(Clone, Copy)]
 pub enum Order {
     Front,
     Back,
@@ -183,10 +168,10 @@ pub fn same_walk<K: TextKey, W: Walk>(
             None => None,
         };
         let same = want.is_some() && walk.gives(order.is_from_back(turn), want);
-        assert!(rt; same, "{order:?} at {turn}");
+        expect(rt, same, "a walk", turn);
     }
     let ends = walk.gives(false, None) && walk.gives(true, None);
-    assert!(rt; ends, "{order:?} at the end");
+    assert!(rt; ends, "the end of a walk");
 }
 
 /// The same of the walk over the values of what a probe asks for.

@@ -19,6 +19,7 @@ use Rattle.ini_text.specs.declared.parser.fault.Stop.{Stop}
 use Rattle.ini_text.specs.declared.parser.fault.Stop.TheVariants as stops
 use Rattle.ini_text.proofs.StringLemmas.FrontLemmas.{front_grows}
 use Rattle.ini_text.proofs.ReaderLemmas.ElementReaderLemmas.{element-says}
+use Rattle.ini_text.proofs.ReaderLemmas.KeyReaderLemmas.{KeyFront-some}
 use Rattle.ini_text.proofs.ReaderLemmas.RunReaderLemmas.{BeginsWith-some}
 
 -- two rows of elements joined
@@ -43,11 +44,12 @@ element-some (Element.comment s one marks all) = omega arith
 element-some (Element.last_comment one marks all) = omega arith
 element-some (Element.indented_comment {w = w} {s = s} on i noted) =
     omega (arith, length-append w s, BeginsWith-some is_blank w i.some)
-element-some (Element.comment_after_cr on start late (Note.note mark all closes)) = omega arith
+element-some (Element.note may late (Note.note mark all closes)) = omega arith
 element-some (Element.header off str) = omega arith
 element-some (Element.bracketed_header on str i) = omega arith
 element-some (Element.pair {k = k} {s = s} {m = m} front some separates value) =
     omega (arith, length-append k (m ∷ s))
+element-some (Element.lone_key alone front some next) = KeyFront-some front some
 element-some (Element.dropped_blanks {w = w} i) = BeginsWith-some is_blank w i.some
 element-some (Element.dropped_key {w = w} {s = s} runs i begins str) =
     omega (arith, length-append w s, BeginsWith-some is_blank w i.some)

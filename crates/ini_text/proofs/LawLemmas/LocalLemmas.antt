@@ -1,9 +1,9 @@
 -- An element is a local matter: of what stands before it, and of what follows it, one character matters.
-use Rattle.std.proofs.Common.{ℕ, Bool, List, [], ◌∷◌, ◌++◌, refl, sym, ◌∙◌}
+use Rattle.std.proofs.Common.{◌≡◌, ℕ, Bool, true, false, ◌||◌, ◌&&◌, List, [], ◌∷◌, ◌++◌, refl, sym, ◌∙◌}
 use Rattle.std.proofs.lemmas.Bool.{false≢true}
 use Rattle.ini_text.specs.Grammar.CharacterKinds.{is_blank, is_comment_mark, line_feed, BeginsWith}
-use Rattle.ini_text.specs.Grammar.Positions.{last_or}
-use Rattle.ini_text.specs.Grammar.Elements.{Given, Gap, Element}
+use Rattle.ini_text.specs.Grammar.Positions.{last_or, starts_line}
+use Rattle.ini_text.specs.Grammar.Elements.{Given, Gap, Element, may_have_note}
 use Rattle.ini_text.specs.Grammar.Keys.{Indentation, KeyFront}
 use Rattle.ini_text.specs.Grammar.Lines.{Note}
 use Rattle.ini_text.specs.Laws.PieceLaws.{Agree, BeginAlike}
@@ -34,6 +34,18 @@ module _ {o : ParseOption} where
 Note-begins : {s r : List ℕ} → Note s r → BeginsWith is_comment_mark s
 Note-begins (Note.note mark all closes) = mark
 
+-- where a line starts after both fronts or after neither, a note may stand after both or after neither
+may_have_note-like : (o : ParseOption) (b c : List ℕ)
+    → (o.enabled_indented_comment ≡ true → starts_line b ≡ starts_line c)
+    → may_have_note o b ≡ may_have_note o c
+may_have_note-like o b c h =
+    at o.enabled_inline_comment o.enabled_indented_comment (starts_line b) (starts_line c) h
+  where
+    at : (n i x y : Bool) → (i ≡ true → x ≡ y) → (n || i && x) ≡ (n || i && y)
+    at true i x y h = refl
+    at false true x y h = h refl
+    at false false x y h = refl
+
 module _ {o : ParseOption} {b c : List ℕ} where
   Indentation-like : {w : List ℕ} → Agree o b c w → Indentation b w → Indentation c w
   Indentation-like a i =
@@ -59,13 +71,16 @@ module _ {o : ParseOption} {b c : List ℕ} where
       Element.last_comment (sym (a.column mark) ∙ at) mark all
   Element-like a (Element.indented_comment {s = s} on i noted) =
       Element.indented_comment on (Indentation-like (Agree-front s a) i) noted
-  Element-like a (Element.comment_after_cr on start late noted) =
+  Element-like a (Element.note may late noted) =
       let mark = Note-begins noted in
-      Element.comment_after_cr on (sym (a.comment on mark) ∙ start) (sym (a.column mark) ∙ late) noted
+      Element.note (sym (may_have_note-like o b c (λ on. a.comment on mark)) ∙ may)
+      (sym (a.column mark) ∙ late) noted
   Element-like a (Element.header off str) = Element.header off str
   Element-like a (Element.bracketed_header on str i) = Element.bracketed_header on str i
   Element-like a (Element.pair {s = s} {m = m} front some sep value) =
       Element.pair (KeyFront-like (Agree-front (m ∷ s) a) front) some sep value
+  Element-like a (Element.lone_key alone front some next) =
+      Element.lone_key alone (KeyFront-like a front) some next
   Element-like a (Element.dropped_blanks i) = Element.dropped_blanks (Indentation-like a i)
   Element-like a (Element.dropped_key {s = s} runs i begins stops) =
       Element.dropped_key runs (Indentation-like (Agree-front s a) i) begins stops

@@ -1,5 +1,5 @@
 -- A text after another one: what is read of it stays, and its places move down.
-use Rattle.std.proofs.Common.{◌≡◌, ℕ, ◌+◌, Bool, true, cond, List, [], ◌∷◌, ◌++◌, refl, sym, ap, ◌∙◌, subst, append_assoc, append-nil, length, length-append, arith, count_by, eqb, eqb-true}
+use Rattle.std.proofs.Common.{◌≡◌, ℕ, ◌+◌, Bool, true, ◌||◌, ◌&&◌, cond, List, [], ◌∷◌, ◌++◌, refl, sym, ap, ◌∙◌, subst, append_assoc, append-nil, length, length-append, arith, count_by, eqb, eqb-true}
 use Rattle.std.proofs.lemmas.Bool.{cond-true, or_right, or_left, false≢true, not-false}
 use Rattle.std.specs.Char.{is_whitespace}
 use Rattle.std.proofs.lemmas.List.Sums.{sum_by-append}
@@ -10,7 +10,7 @@ use Rattle.ini_text.specs.Grammar.CharacterKinds.{line_feed, open_bracket, is_bl
 use Rattle.ini_text.specs.Grammar.Positions.{column_of, last_or, line_of, starts_line, is_column_one, last_line}
 use Rattle.ini_text.specs.Grammar.Keys.{Indentation, KeyFront, begins_key}
 use Rattle.ini_text.specs.Grammar.Lines.{Note}
-use Rattle.ini_text.specs.Grammar.Elements.{Given, Gap, Element, ElementStops}
+use Rattle.ini_text.specs.Grammar.Elements.{Given, Gap, Element, ElementStops, may_have_note}
 use Rattle.ini_text.specs.Grammar.Texts.{Reads, Derives, Stops}
 use Rattle.ini_text.specs.Parsing.Parser.{StopsPast}
 use Rattle.ini_text.specs.Laws.PlainLaws.{BeginsWithHeader, IsEmptyOrHeader, IsMoved}
@@ -44,6 +44,10 @@ module _ (W : List ℕ) (one : is_column_one W ≡ true) where
   Gap-after (Gap.before_header i) = Gap.before_header (Indentation-after i)
   Gap-after {b} (Gap.white h n) = Gap.white h (λ q. starts_line-after b ∙ n q)
 
+  may_have_note-after : (o : ParseOption) (b : List ℕ) → may_have_note o (W ++ b) ≡ may_have_note o b
+  may_have_note-after o b =
+      ap (λ starts. o.enabled_inline_comment || o.enabled_indented_comment && starts) (starts_line-after b)
+
   module _ {o : ParseOption} where
     KeyFront-after : {b s r v : List ℕ} → KeyFront o b s r v → KeyFront o (W ++ b) s r v
     KeyFront-after (KeyFront.unindented h str) = KeyFront.unindented h str
@@ -58,11 +62,13 @@ module _ (W : List ℕ) (one : is_column_one W ≡ true) where
         Element.last_comment (is_column_one-after b ∙ at) mark all
     Element-after (Element.indented_comment on i noted) =
         Element.indented_comment on (Indentation-after i) noted
-    Element-after {b} (Element.comment_after_cr on start late noted) =
-        Element.comment_after_cr on (starts_line-after b ∙ start) (is_column_one-after b ∙ late) noted
+    Element-after {b} (Element.note may late noted) =
+        Element.note (may_have_note-after o b ∙ may) (is_column_one-after b ∙ late) noted
     Element-after (Element.header off str) = Element.header off str
     Element-after (Element.bracketed_header on str i) = Element.bracketed_header on str i
     Element-after (Element.pair front some sep value) = Element.pair (KeyFront-after front) some sep value
+    Element-after (Element.lone_key alone front some next) =
+        Element.lone_key alone (KeyFront-after front) some next
     Element-after (Element.dropped_blanks i) = Element.dropped_blanks (Indentation-after i)
     Element-after (Element.dropped_key runs i begins stops) =
         Element.dropped_key runs (Indentation-after i) begins stops
@@ -77,12 +83,16 @@ module _ (W : List ℕ) (one : is_column_one W ≡ true) where
     ElementStops-after (ElementStops.in_indented_key i begins stops n) =
         ElementStops.in_indented_key (Indentation-after i) begins stops n
     ElementStops-after (ElementStops.no_key front sep) = ElementStops.no_key (KeyFront-after front) sep
-    ElementStops-after (ElementStops.no_separator front end) =
-        ElementStops.no_separator (KeyFront-after front) end
+    ElementStops-after (ElementStops.no_lone_key alone front end) =
+        ElementStops.no_lone_key alone (KeyFront-after front) end
+    ElementStops-after (ElementStops.no_last_key alone front) =
+        ElementStops.no_last_key alone (KeyFront-after front)
+    ElementStops-after (ElementStops.no_separator refuses front end) =
+        ElementStops.no_separator refuses (KeyFront-after front) end
     ElementStops-after (ElementStops.in_value front some sep stops) =
         ElementStops.in_value (KeyFront-after front) some sep stops
     ElementStops-after {b} (ElementStops.late_comment mark late within) =
-        ElementStops.late_comment mark (is_column_one-after b ∙ late) (λ on. starts_line-after b ∙ within on)
+        ElementStops.late_comment mark (is_column_one-after b ∙ late) (may_have_note-after o b ∙ within)
 
     pub Reads-after : {Y b c : List ℕ} {items : List Given} → Reads o Y b items c
         → Reads o (W ++ Y) (W ++ b) items (W ++ c)
@@ -192,12 +202,13 @@ module _ {o : ParseOption} where
       absurd (false≢true (begins_bracket is_comment_mark (m ∷ []) _ y mark e))
   header_element {r = r} y more (Element.indented_comment {w} {s} on i noted) e =
       absurd (no_blank (s ++ r) y i (sym (append_assoc w s r) ∙ e))
-  header_element {r = r} y more (Element.comment_after_cr on start late (Note.note {m} mark all closes)) e =
+  header_element {r = r} y more (Element.note may late (Note.note {m} mark all closes)) e =
       absurd (false≢true (begins_bracket is_comment_mark (m ∷ []) _ y mark e))
   header_element y more (Element.header off str) e = tt
   header_element y more (Element.bracketed_header on str i) e = tt
   header_element {r = r} y more (Element.pair {k} {s} {m = m} front some sep value) e =
       absurd (no_key y front (sym (append_assoc k (m ∷ s) r) ∙ e))
+  header_element y more (Element.lone_key alone front some next) e = absurd (no_key y front e)
   header_element {r = r} y more (Element.dropped_blanks i) e = absurd (no_blank r y i e)
   header_element {r = r} y more (Element.dropped_key {w} {s} runs i begins stops) e =
       absurd (no_blank (s ++ r) y i (sym (append_assoc w s r) ∙ e))

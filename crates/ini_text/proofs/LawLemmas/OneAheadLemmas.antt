@@ -4,10 +4,10 @@ use Rattle.std.proofs.Common.{◌≤◌, ◌≡◌, ℕ, Bool, List, [], ◌∷�
 use Rattle.std.proofs.lemmas.List.{append_cancel_left}
 use Rattle.ini_text.specs.Options.Backslashes.{Backslash}
 use Rattle.ini_text.specs.declared.option.ParseOption.{ParseOption}
-use Rattle.ini_text.specs.Grammar.CharacterKinds.{is_blank, is_comment_mark, is_inline_white, is_line_end, is_line_feed, is_quote_mark, BeginsWith, BeginsWithNo}
+use Rattle.ini_text.specs.Grammar.CharacterKinds.{is_blank, is_comment_mark, is_inline_white, is_line_end, is_line_feed, is_quote_mark, is_separator, BeginsWith, BeginsWithNo}
 use Rattle.ini_text.specs.Grammar.WhiteSpace.{Lead}
 use Rattle.ini_text.specs.Grammar.Strings.{Ends, Str}
-use Rattle.ini_text.specs.Grammar.Lines.{Line, Note}
+use Rattle.ini_text.specs.Grammar.Lines.{Line, LineTail, LineText, Note}
 use Rattle.ini_text.specs.Grammar.Values.{CommentLine, GoesOn, LineEnd, MoreLines, Value}
 use Rattle.ini_text.specs.Grammar.Keys.{begins_key, begins_indented_key, KeyFront}
 use Rattle.ini_text.specs.Grammar.Elements.{Given, Gap, Element}
@@ -39,6 +39,7 @@ Lead-alike a lead = record { white = lead.white; ends = BeginsWithNo-alike is_in
 pub Str-alike : {e : Backslash} {ends : Ends} {s r v x : List ℕ} → Alike r x
     → Str e ends s r v → Str e ends s x v
 Str-alike Alike.same (Str.closed k h) = Str.closed k h
+Str-alike Alike.same (Str.before_note c k raw inside note) = Str.before_note c k raw inside note
 Str-alike a (Str.lone sp k h) = elim a [ ]
 
 pub LineEnd-alike : {e r x : List ℕ} → Alike r x → LineEnd e r → LineEnd e x
@@ -49,15 +50,24 @@ LineEnd-alike a (LineEnd.cr n) = LineEnd.cr (BeginsWithNo-alike is_line_feed a n
 pub Note-alike : {s r x : List ℕ} → Alike r x → Note s r → Note s x
 Note-alike Alike.same (Note.note mark all closes) = Note.note mark all closes
 
+pub LineTail-alike : {s r x : List ℕ} → Alike r x → LineTail s r → LineTail s x
+LineTail-alike Alike.same (LineTail.none closes) = LineTail.none closes
+LineTail-alike a (LineTail.note noted) = LineTail.note (Note-alike a noted)
+
 pub Gap-alike : {b s r x : List ℕ} → Alike r x → Gap b s r → Gap b s x
 Gap-alike a (Gap.blank_line c ind h) = Gap.blank_line c ind h
 Gap-alike Alike.same (Gap.before_header ind) = Gap.before_header ind
 Gap-alike a (Gap.white h n) = Gap.white h n
 
 module _ {o : ParseOption} where
+  pub LineText-alike : {first : Bool} {s r v x : List ℕ} → Alike r x → LineText o first s r v
+      → LineText o first s x v
+  LineText-alike a (LineText.text {p = p} k plain str) =
+      LineText.text k (λ on. BeginsWithNo-alike is_quote_mark (Alike-after p a) (plain on)) (Str-alike a str)
+
   pub Line-alike : {first : Bool} {s r v x : List ℕ} → Alike r x → Line o first s r v → Line o first s x v
-  Line-alike a (Line.line {p = p} k plain str) =
-      Line.line k (λ on. BeginsWithNo-alike is_quote_mark (Alike-after p a) (plain on)) (Str-alike a str)
+  Line-alike a (Line.line {n = n} given tail) =
+      Line.line (LineText-alike (Alike-after n a) given) (LineTail-alike a tail)
 
   -- a line before its line end stands before each text before which the line end does
   pub EndedLine-before : {first : Bool} {w l e r x u : List ℕ} → LineEnd e x → EndedLine o first w l e r u
@@ -128,12 +138,13 @@ module _ {o : ParseOption} where
   Element-alike a (Element.last_comment one mark all) = elim a [ ]
   Element-alike a (Element.indented_comment on ind noted) =
       Element.indented_comment on ind (Note-alike a noted)
-  Element-alike a (Element.comment_after_cr on start late noted) =
-      Element.comment_after_cr on start late (Note-alike a noted)
+  Element-alike a (Element.note may late noted) = Element.note may late (Note-alike a noted)
   Element-alike a (Element.header off str) = Element.header off (Str-alike Alike.same str)
   Element-alike a (Element.bracketed_header on str i) = Element.bracketed_header on (Str-alike a str) i
   Element-alike a (Element.pair front some sep given) =
       Element.pair (KeyFront-alike Alike.same front) some sep (Value-alike a given)
+  Element-alike a (Element.lone_key alone front some next) =
+      Element.lone_key alone (KeyFront-alike a front) some (BeginsWithNo-alike is_separator a next)
   Element-alike a (Element.dropped_blanks ind) = elim a [ ]
   Element-alike a (Element.dropped_key runs ind begins stops) = elim a [ ]
 

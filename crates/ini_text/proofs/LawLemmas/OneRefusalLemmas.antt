@@ -191,9 +191,14 @@ module _ (o : ParseOption) where
       )
   ElementStops-stands x n uncut (ElementStops.no_key {k} {m = m} front sep) =
       (omega (arith, length-append k (m ∷ [])), ElementStops.no_key (KeyFront-alike Alike.same front) sep)
-  ElementStops-stands x n uncut (ElementStops.no_separator {k} {c = c} front end) = (
+  ElementStops-stands x n uncut (ElementStops.no_lone_key {k} {c = c} alone front end) = (
     omega (arith, length-append k (c ∷ [])),
-    ElementStops.no_separator (KeyFront-alike Alike.same front) end,
+    ElementStops.no_lone_key alone (KeyFront-alike Alike.same front) end,
+  )
+  ElementStops-stands x n uncut (ElementStops.no_last_key alone front) = absurd (n refl)
+  ElementStops-stands x n uncut (ElementStops.no_separator {k} {c = c} refuses front end) = (
+    omega (arith, length-append k (c ∷ [])),
+    ElementStops.no_separator refuses (KeyFront-alike Alike.same front) end,
   )
   ElementStops-stands {b = b} {k = kind} x n uncut
       (ElementStops.in_value {k} {s} {r} {key} {m} front some sep stops) =

@@ -31,7 +31,8 @@ space_more {before = before} c p is white = record {
 }
 
 pub space_escaped : {b : Backslash} {lines raw_value : List ℕ} (before : List ℕ) (c : ℕ)
-    → SpaceSoFar lines raw_value → raw_value ≡ before ++ c ∷ [] → begins_escape b c ≡ true → IsBeforeSpace b lines lines
+    → SpaceSoFar lines raw_value → raw_value ≡ before ++ c ∷ [] → begins_escape b c ≡ true
+    → IsBeforeSpace b lines lines
 space_escaped {b} {lines} before c p is slash =
     let parts = and_parts (c == backslash) (is_special b) slash in
     let whole =

@@ -1,6 +1,5 @@
 -- A value's own lines and what stands after them, line by line.
-use Rattle.std.proofs.Common.{◌≡◌, ◌≢◌, ◌<◌, ℕ, true, false, ◌==◌, List, [], ◌∷◌, ◌++◌, length, Some, None, inl, inr, refl, sym, ap, ◌∙◌, subst, subst₂, append_assoc, append-nil, chars, eqb-true, ne_eqb}
-use Rattle.std.proofs.Math.Bool.{or-false}
+use Rattle.std.proofs.Common.{◌≡◌, ◌≢◌, ◌<◌, ℕ, Bool, true, false, ◌==◌, List, [], ◌∷◌, ◌++◌, length, Some, None, inl, inr, refl, sym, ap, ◌∙◌, subst, subst₂, append_assoc, append-nil, chars, eqb-true, ne_eqb}
 use Rattle.std.proofs.lemmas.Bool.{cases_Bool}
 use Rattle.std.proofs.lemmas.List.Folds.{list_all-append}
 use Rattle.std.specs.List.{list_all}
@@ -8,22 +7,22 @@ use Rattle.ini_text.specs.declared.option.ParseOption.{ParseOption}
 use Rattle.ini_text.specs.declared.error.ParseKind.{ParseKind}
 use Rattle.ini_text.specs.declared.parser.rests.Rests.{Rests}
 use Rattle.ini_text.specs.Grammar.CharacterKinds.{line_feed, carriage_return, is_blank, is_comment_mark, is_line_end, is_line_feed, is_inline_white, BeginsWith, BeginsWithNo}
-use Rattle.ini_text.specs.Grammar.WhiteSpace.{Lead, without_outer_line_feeds}
-use Rattle.ini_text.specs.Grammar.Strings.{Closes, plain_ends}
-use Rattle.ini_text.specs.Grammar.Lines.{Line, LineStops}
+use Rattle.ini_text.specs.Grammar.WhiteSpace.{without_outer_line_feeds}
+use Rattle.ini_text.specs.Grammar.Lines.{Line, LineText, LineTail, LineStops}
 use Rattle.ini_text.specs.Grammar.Values.{CommentLine, GoesOn, LineEnd, MoreLines}
 use Rattle.ini_text.specs.Grammar.Places.{LastLine, OwnLines, TrailingLines}
-use Rattle.ini_text.specs.Inside.LineReader.{line}
+use Rattle.ini_text.specs.Inside.LineReader.{line, line_text, past_note, without_note}
 use Rattle.ini_text.specs.Inside.PlaceReader.{HasTail, TailSoFar}
 use Rattle.ini_text.specs.Inside.Reading.{found, stopped, prepend, altered_answer}
 use Rattle.ini_text.specs.Inside.Scans.{run_of, skipped}
 use Rattle.ini_text.specs.Inside.ValueReader.{after_end, comment_end, empty_cr, more_lines, value}
 use Rattle.ini_text.proofs.GrammarLemmas.KindLemmas.{blank_inline}
 use Rattle.ini_text.proofs.ReaderLemmas.ReaderLemmas.{Says, prepend-nil, prepend-prepend}
-use Rattle.ini_text.proofs.ReaderLemmas.LineReaderLemmas.{line-reads}
+use Rattle.ini_text.proofs.ReaderLemmas.LineReaderLemmas.{line_text-reads, tail_at, text_ends}
+use Rattle.ini_text.proofs.ReaderLemmas.NoteLemmas.{LineTail-closes}
 use Rattle.ini_text.proofs.ReaderLemmas.RunReaderLemmas.{run-sound}
 use Rattle.ini_text.proofs.ReaderLemmas.LineTurnLemmas.{comment_at, comment_goes_on, no_comment_text, empty_line, empty_cr_line, line_goes_on, line_ends, line_stops, value_line, value_ends, value_goes_on}
-use Rattle.ini_text.proofs.ReaderLemmas.ValueReaderLemmas.{CommentLine-closes, EndSays, after_end-sound, no_end, Line-closes, MoreLines-finds}
+use Rattle.ini_text.proofs.ReaderLemmas.ValueReaderLemmas.{CommentLine-closes, EndSays, after_end-sound, no_end, MoreLines-finds}
 
 pub feeds_all : (u : List ℕ) → skipped is_line_feed u ≡ [] → list_all is_line_feed u ≡ true
 feeds_all [] h = refl
@@ -59,13 +58,20 @@ after_cr-is (c ∷ cs) r h = elim (cases_Bool (c == line_feed)) [
   | inr n ↦ absurd (found_stopped (rw n at h))
 ]
 
--- a line at the front of a text
-record LineAt (o : ParseOption) (t end u : List ℕ) : Type 0 where
+-- what is left of a line behind its text: nothing, or a note; and then `end`
+record TailAt (tail end : List ℕ) : Type 0 where
+  pub note : List ℕ
+  pub is_note : LineTail note end
+  pub whole : note ++ end ≡ tail
+
+-- the text of a line at the front of a text, before `tail`, and what is left of the line, before `end`
+record LineAt (o : ParseOption) (t tail end u : List ℕ) : Type 0 where
   pub w : List ℕ
   pub l : List ℕ
-  pub goes : GoesOn o w (l ++ end)
-  pub ln : Line o false l end u
-  pub whole : (w ++ l) ++ end ≡ t
+  pub goes : GoesOn o w (l ++ tail)
+  pub ln : LineText o false l tail u
+  pub at : TailAt tail end
+  pub whole : (w ++ l) ++ tail ≡ t
 
 -- the same where these are the rests that were kept
 pub at_rests : {o : ParseOption} {text s t gives rest : List ℕ} (rests : Rests) → rests.start.now ≡ s
@@ -74,12 +80,32 @@ pub at_rests : {o : ParseOption} {text s t gives rest : List ℕ} (rests : Rests
 at_rests rests p q h = rw (p, q) h
 
 module _ (o : ParseOption) where
-  line_at : {t cs start end u : List ℕ} {c : ℕ} → t ≡ c ∷ cs → is_blank c ≡ true
-      → comment_end o c cs ≡ None → start ≡ skipped is_inline_white t → line o false start ≡ found u end
-      → LineAt o t end u
-  line_at {t} {cs} {start} {end} {u} {c} is b none skips read =
+  -- a line is read where its text is
+  line_read : (first : Bool) (start : List ℕ) {tail end u : List ℕ} → end ≡ past_note o tail
+      → line_text o first start ≡ found u tail → line o first start ≡ found u end
+  line_read first start {u = u} cut h = ap (without_note o) h ∙ ap (found u) (sym cut)
+
+  pub line_stopped : (first : Bool) (start : List ℕ) {r : List ℕ} {k : ParseKind}
+      → line_text o first start ≡ stopped r k → line o first start ≡ stopped r k
+  line_stopped first start h = ap (without_note o) h
+
+  left_at : {first : Bool} {l tail end u : List ℕ} → end ≡ past_note o tail → LineText o first l tail u
+      → TailAt tail end
+  left_at {tail = tail} cut ln =
+      let (n, is_note, whole) = tail_at o tail (text_ends ln) in
+      subst (TailAt tail) (sym cut) (record { note = n; is_note = is_note; whole = whole })
+
+  whole_line : {first : Bool} {l tail end u : List ℕ} → LineText o first l tail u → (at : TailAt tail end)
+      → Line o first (l ++ at.note) end u
+  whole_line {first} {l} {u = u} ln at =
+      Line.line (subst (λ y. LineText o first l y u) (sym at.whole) ln) at.is_note
+
+  line_at : {t cs start tail end u : List ℕ} {c : ℕ} → t ≡ c ∷ cs → is_blank c ≡ true
+      → comment_end o c cs ≡ None → start ≡ skipped is_inline_white t → end ≡ past_note o tail
+      → line_text o false start ≡ found u tail → LineAt o t tail end u
+  line_at {t} {cs} {start} {tail} {end} {u} {c} is b none skips cut read =
       let (l, ln, h) =
-      subst (Says (Line o false) (LineStops o) start) read ((line-reads o false).sound start) in
+      subst (Says (LineText o false) (LineStops o) start) read ((line_text-reads o false).sound start) in
       let split = run-sound is_inline_white t in
       record {
         w = run_of is_inline_white t;
@@ -95,8 +121,9 @@ module _ (o : ParseOption) where
               (sym (h ∙ skips ∙ ap (skipped is_inline_white) is)) (no_comment_text o c cs b none);
         };
         ln = ln;
+        at = left_at cut ln;
         whole =
-            append_assoc (run_of is_inline_white t) l end
+            append_assoc (run_of is_inline_white t) l tail
             ∙ ap (λ y. run_of is_inline_white t ++ y) (h ∙ skips) ∙ split.whole;
       }
 
@@ -112,118 +139,153 @@ module _ (o : ParseOption) where
   cr_lf_row next =
       record { last = λ s r e x. LastLine.empty_cr_lf x; more = λ s r v e m. MoreLines.empty_cr_lf m }
 
-  module _ {t end next u : List ℕ} (here : LineAt o t end u) (e : List ℕ) (le : LineEnd e next)
-      (is : e ++ next ≡ end) where
-    abbrev row_source : List ℕ
-    row_source = here.w ++ (here.l ++ e)
+  module _ {t tail end u : List ℕ} (here : LineAt o t tail end u) where
+    abbrev row_line : List ℕ
+    row_line = here.l ++ here.at.note
 
-    seam : (s : List ℕ) → row_source ++ s ≡ here.w ++ (here.l ++ (e ++ s))
-    seam s = append_assoc here.w (here.l ++ e) s ∙ ap (λ x. here.w ++ x) (append_assoc here.l e s)
+    row_ln : Line o false row_line end u
+    row_ln = whole_line here.ln here.at
 
-    onward : (s r : List ℕ) → s ++ r ≡ next → end ≡ e ++ (s ++ r)
-    onward s r q = sym is ∙ ap (λ x. e ++ x) (sym q)
+    line_whole : row_line ++ end ≡ here.l ++ tail
+    line_whole = append_assoc here.l here.at.note end ∙ ap (λ x. here.l ++ x) here.at.whole
 
-    line_row : Row row_source next (line_feed ∷ u)
-    line_row = record {
-      last = λ s r q x. subst (λ y. LastLine o y r) (sym (seam s))
-          (LastLine.continued (subst (λ y. GoesOn o here.w (here.l ++ y)) (onward s r q) here.goes)
-          (subst (λ y. Line o false here.l y u) (onward s r q) here.ln) (subst (LineEnd e) (sym q) le) x);
-      more = λ s r v q m. subst (λ y. MoreLines o y r (line_feed ∷ (u ++ v))) (sym (seam s))
-          (MoreLines.continued (subst (λ y. GoesOn o here.w (here.l ++ y)) (onward s r q) here.goes)
-          (subst (λ y. Line o false here.l y u) (onward s r q) here.ln) (subst (LineEnd e) (sym q) le) m);
-    }
+    row_goes : GoesOn o here.w (row_line ++ end)
+    row_goes = subst (GoesOn o here.w) (sym line_whole) here.goes
 
-    row_whole : t ≡ row_source ++ next
-    row_whole =
-        sym here.whole ∙ ap (λ x. (here.w ++ here.l) ++ x) (sym is) ∙ append_assoc here.w here.l (e ++ next)
-        ∙ sym (seam next)
+    text_whole : here.w ++ (row_line ++ end) ≡ t
+    text_whole = ap (λ x. here.w ++ x) line_whole ∙ sym (append_assoc here.w here.l tail) ∙ here.whole
 
-first_said : (o : ParseOption) {start tail u : List ℕ} → line o true start ≡ found u tail
-    → (l : List ℕ) × Line o true l tail u × (l ++ tail ≡ start)
-first_said o {start} h = subst (Says (Line o true) (LineStops o) start) h ((line-reads o true).sound start)
+    module _ {next : List ℕ} (e : List ℕ) (le : LineEnd e next) (is : e ++ next ≡ end) where
+      abbrev row_source : List ℕ
+      row_source = here.w ++ (row_line ++ e)
+
+      seam : (s : List ℕ) → row_source ++ s ≡ here.w ++ (row_line ++ (e ++ s))
+      seam s = append_assoc here.w (row_line ++ e) s ∙ ap (λ x. here.w ++ x) (append_assoc row_line e s)
+
+      onward : (s r : List ℕ) → s ++ r ≡ next → end ≡ e ++ (s ++ r)
+      onward s r q = sym is ∙ ap (λ x. e ++ x) (sym q)
+
+      line_row : Row row_source next (line_feed ∷ u)
+      line_row = record {
+        last = λ s r q x. subst (λ y. LastLine o y r) (sym (seam s))
+            (LastLine.continued (subst (λ y. GoesOn o here.w (row_line ++ y)) (onward s r q) row_goes)
+            (subst (λ y. Line o false row_line y u) (onward s r q) row_ln) (subst (LineEnd e) (sym q) le) x);
+        more = λ s r v q m. subst (λ y. MoreLines o y r (line_feed ∷ (u ++ v))) (sym (seam s))
+            (MoreLines.continued (subst (λ y. GoesOn o here.w (row_line ++ y)) (onward s r q) row_goes)
+            (subst (λ y. Line o false row_line y u) (onward s r q) row_ln) (subst (LineEnd e) (sym q) le) m);
+      }
+
+      row_whole : t ≡ row_source ++ next
+      row_whole = sym text_whole ∙ ap (λ x. here.w ++ (row_line ++ x)) (sym is) ∙ sym (seam next)
+
+first_said : (o : ParseOption) {start tail u : List ℕ} → line_text o true start ≡ found u tail
+    → (l : List ℕ) × LineText o true l tail u × (l ++ tail ≡ start)
+first_said o {start} h =
+    subst (Says (LineText o true) (LineStops o) start) h ((line_text-reads o true).sound start)
 
 module _ (o : ParseOption) {text start : List ℕ} (skips : start ≡ skipped is_inline_white text) where
-  pub one_line : {tail u : List ℕ} → o.enabled_indented_mutiline_value ≡ false
-      → line o true start ≡ found u tail → HasTail o text start tail u tail
-  one_line {tail} {u} off h =
-      let (l, ln, whole) = first_said o h in
-      record {
-        own = l;
-        following = [];
-        skips = skips;
-        own_is = sym whole;
-        tail_is = refl;
-        reads = value_line o text skips off ∙ h;
-        own_lines = OwnLines.first ln;
-        is_tail = TrailingLines.line off (Line-closes ln);
-      }
+  -- after a first line's text stands `tail`, and after its note `end`
+  module _ {tail end u : List ℕ} (read : line_text o true start ≡ found u tail)
+      (cut : end ≡ past_note o tail) where
+    pub one_line : o.enabled_indented_mutiline_value ≡ false → HasTail o text start tail u end
+    one_line off =
+        let (l, ln, whole) = first_said o read in
+        let at = left_at o cut ln in
+        record {
+          own = l;
+          note = at.note;
+          following = [];
+          skips = skips;
+          own_is = sym whole;
+          tail_is = sym at.whole;
+          past_note = sym cut;
+          reads = value_line o text skips off ∙ line_read o _ _ cut read;
+          own_lines = OwnLines.first ln;
+          is_note = at.is_note;
+          is_tail = TrailingLines.line off (LineTail-closes at.is_note);
+        }
 
-  pub line_to_end : {tail u : List ℕ} → o.enabled_indented_mutiline_value ≡ true
-      → line o true start ≡ found u tail → after_end tail ≡ None
-      → HasTail o text start tail (without_outer_line_feeds u) tail
-  line_to_end {tail} {u} on h none =
-      let (l, ln, whole) = first_said o h in
-      record {
-        own = l;
-        following = [];
-        skips = skips;
-        own_is = sym whole;
-        tail_is = refl;
-        reads = value_ends o text skips on h none refl;
-        own_lines = OwnLines.first ln;
-        is_tail = subst (TrailingLines o []) (sym (no_end tail (Line-closes ln) none)) (TrailingLines.end on);
-      }
+    pub line_to_end : o.enabled_indented_mutiline_value ≡ true → after_end end ≡ None
+        → HasTail o text start tail (without_outer_line_feeds u) end
+    line_to_end on none =
+        let (l, ln, whole) = first_said o read in
+        let at = left_at o cut ln in
+        record {
+          own = l;
+          note = at.note;
+          following = [];
+          skips = skips;
+          own_is = sym whole;
+          tail_is = sym at.whole;
+          past_note = sym cut;
+          reads = value_ends o text skips on (line_read o _ _ cut read) none refl;
+          own_lines = OwnLines.first ln;
+          is_note = at.is_note;
+          is_tail = subst (TrailingLines o []) (sym (no_end end (LineTail-closes at.is_note) none))
+              (TrailingLines.end on);
+        }
 
-  pub tail_begins : {tail next u : List ℕ} → o.enabled_indented_mutiline_value ≡ true
-      → line o true start ≡ found u tail → after_end tail ≡ Some next
-      → TailSoFar o text start tail next u
-  tail_begins {tail} {next} {u} on h some =
-      let (l, ln, whole) = first_said o h in
-      let (e, le, is) = subst (EndSays tail) some (after_end-sound tail) in
-      record {
-        before = l ++ e;
-        own = l;
-        end = e;
-        lines = [];
-        start_is = sym whole ∙ ap (λ x. l ++ x) (sym is) ∙ sym (append_assoc l e next);
-        own_is = sym whole;
-        tail_is = sym is;
-        own_lines = OwnLines.first ln;
-        ends = le;
-        reads = value_goes_on o text skips on h some;
-        closes = λ s r v q m all. (v, m, all);
-        grows = λ s r q last.
-            subst (λ x. OwnLines o x r) (sym (append_assoc l e s))
-            (OwnLines.more (subst (λ y. Line o true l y u) (sym is ∙ ap (λ x. e ++ x) (sym q)) ln)
-            (subst (LineEnd e) (sym q) le) last);
-      }
+    pub tail_begins : {next : List ℕ} → o.enabled_indented_mutiline_value ≡ true
+        → after_end end ≡ Some next → TailSoFar o text start tail next u
+    tail_begins {next} on some =
+        let (l, ln, whole) = first_said o read in
+        let at = left_at o cut ln in
+        let (e, le, is) = subst (EndSays end) some (after_end-sound end) in
+        let all = l ++ at.note in
+        let line_whole : all ++ end ≡ start =
+        append_assoc l at.note end ∙ ap (λ x. l ++ x) at.whole ∙ whole in
+        record {
+          before = all ++ e;
+          own = l;
+          note = at.note;
+          end = e;
+          lines = [];
+          start_is = sym line_whole ∙ ap (λ x. all ++ x) (sym is) ∙ sym (append_assoc all e next);
+          own_is = sym whole;
+          tail_is = sym at.whole ∙ ap (λ x. at.note ++ x) (sym is);
+          past_note = sym cut ∙ sym is;
+          is_note = subst (LineTail at.note) (sym is) at.is_note;
+          own_lines = OwnLines.first ln;
+          ends = le;
+          reads = value_goes_on o text skips on (line_read o _ _ cut read) some;
+          closes = λ s r v q m feeds. (v, m, feeds);
+          grows = λ s r q last.
+              subst (λ x. OwnLines o x r) (sym (append_assoc all e s))
+              (OwnLines.more (subst (λ y. Line o true all y u) (sym is ∙ ap (λ x. e ++ x) (sym q))
+              (whole_line o ln at)) (subst (LineEnd e) (sym q) le) last);
+        }
 
   -- a row that gives nothing stays after the value's own lines
   tail_row : {tail rest next given : List ℕ} (p u : List ℕ) → TailSoFar o text start tail rest given
       → rest ≡ p ++ next
       → more_lines o rest ≡ prepend u (more_lines o next)
       → Row o p next u → list_all is_line_feed u ≡ true → TailSoFar o text start tail next (given ++ u)
-  tail_row {tail} {rest} {next} {given} p u st is turn row all = record {
-    before = st.before ++ p;
-    own = st.own;
-    end = st.end;
-    lines = st.lines ++ p;
-    start_is = st.start_is ∙ ap (λ x. st.before ++ x) is ∙ sym (append_assoc st.before p next);
-    own_is = st.own_is;
-    tail_is =
-        st.tail_is ∙ ap (λ x. st.end ++ x) (ap (λ x. st.lines ++ x) is ∙ sym (append_assoc st.lines p next));
-    own_lines = st.own_lines;
-    ends = subst (LineEnd st.end) (ap (λ x. st.lines ++ x) is ∙ sym (append_assoc st.lines p next)) st.ends;
-    reads = st.reads ∙ ap (λ a. altered_answer without_outer_line_feeds (prepend given a)) turn
-        ∙ ap (altered_answer without_outer_line_feeds) (prepend-prepend given u (more_lines o next));
-    closes = λ s r v q m feeds.
-        let x = st.closes (p ++ s) r (u ++ v) (append_assoc p s r ∙ ap (λ y. p ++ y) q ∙ sym is)
-        (row.more s r v q m) (all_after u v all feeds) in
-        (x.0, subst (λ y. MoreLines o y r x.0) (sym (append_assoc st.lines p s)) x.1, x.2);
-    grows = λ s r q last.
-        subst (λ y. OwnLines o y r) (sym (append_assoc st.before p s))
-        (st.grows (p ++ s) r (append_assoc p s r ∙ ap (λ y. p ++ y) q ∙ sym is) (row.last s r q last));
-  }
+  tail_row {tail} {rest} {next} {given} p u st is turn row all =
+      let lines_are : st.lines ++ rest ≡ (st.lines ++ p) ++ next =
+      ap (λ x. st.lines ++ x) is ∙ sym (append_assoc st.lines p next) in
+      record {
+        before = st.before ++ p;
+        own = st.own;
+        note = st.note;
+        end = st.end;
+        lines = st.lines ++ p;
+        start_is = st.start_is ∙ ap (λ x. st.before ++ x) is ∙ sym (append_assoc st.before p next);
+        own_is = st.own_is;
+        tail_is = st.tail_is ∙ ap (λ x. st.note ++ (st.end ++ x)) lines_are;
+        past_note = st.past_note ∙ ap (λ x. st.end ++ x) lines_are;
+        is_note = subst (λ x. LineTail st.note (st.end ++ x)) lines_are st.is_note;
+        own_lines = st.own_lines;
+        ends = subst (LineEnd st.end) lines_are st.ends;
+        reads = st.reads ∙ ap (λ a. altered_answer without_outer_line_feeds (prepend given a)) turn
+            ∙ ap (altered_answer without_outer_line_feeds) (prepend-prepend given u (more_lines o next));
+        closes = λ s r v q m feeds.
+            let x = st.closes (p ++ s) r (u ++ v) (append_assoc p s r ∙ ap (λ y. p ++ y) q ∙ sym is)
+            (row.more s r v q m) (all_after u v all feeds) in
+            (x.0, subst (λ y. MoreLines o y r x.0) (sym (append_assoc st.lines p s)) x.1, x.2);
+        grows = λ s r q last.
+            subst (λ y. OwnLines o y r) (sym (append_assoc st.before p s))
+            (st.grows (p ++ s) r (append_assoc p s r ∙ ap (λ y. p ++ y) q ∙ sym is) (row.last s r q last));
+      }
 
   pub tail_lf : {tail rest next given : List ℕ} {c : ℕ} → TailSoFar o text start tail rest given
       → rest ≡ c ∷ next → c ≡ line_feed → TailSoFar o text start tail next (given ++ line_feed ∷ [])
@@ -252,18 +314,23 @@ module _ (o : ParseOption) {text start : List ℕ} (skips : start ≡ skipped is
       → HasTail o text start tail (without_outer_line_feeds (given ++ v)) r
   tail_done {rest = rest} {given} on st s r v q m all =
       let x = st.closes s r v q m all in
-      let whole : st.lines ++ rest ≡ (st.lines ++ s) ++ r =
+      let lines_are : st.lines ++ rest ≡ (st.lines ++ s) ++ r =
       ap (λ y. st.lines ++ y) (sym q) ∙ sym (append_assoc st.lines s r) in
+      let whole : st.end ++ (st.lines ++ rest) ≡ (st.end ++ (st.lines ++ s)) ++ r =
+      ap (λ y. st.end ++ y) lines_are ∙ sym (append_assoc st.end (st.lines ++ s) r) in
       record {
         own = st.own;
+        note = st.note;
         following = st.end ++ (st.lines ++ s);
         skips = skips;
         own_is = st.own_is;
-        tail_is = st.tail_is ∙ ap (λ y. st.end ++ y) whole ∙ sym (append_assoc st.end (st.lines ++ s) r);
+        tail_is = st.tail_is ∙ ap (λ y. st.note ++ y) whole;
+        past_note = st.past_note ∙ whole;
         reads = st.reads ∙ ap (λ a. altered_answer without_outer_line_feeds (prepend given a))
             (ap (more_lines o) (sym q) ∙ MoreLines-finds o s r v m);
         own_lines = st.own_lines;
-        is_tail = TrailingLines.lines on (subst (LineEnd st.end) whole st.ends) x.1 x.2;
+        is_note = subst (LineTail st.note) whole st.is_note;
+        is_tail = TrailingLines.lines on (subst (LineEnd st.end) lines_are st.ends) x.1 x.2;
       }
 
   pub tail_ends : {tail rest given : List ℕ} → o.enabled_indented_mutiline_value ≡ true
@@ -289,11 +356,13 @@ module _ (o : ParseOption) {text start : List ℕ} (skips : start ≡ skipped is
 
   pub tail_line_stops : {tail rest cs following r given : List ℕ} {c : ℕ} {k : ParseKind}
       → TailSoFar o text start tail rest given → rest ≡ c ∷ cs → is_blank c ≡ true
-      → comment_end o c cs ≡ None → following ≡ skipped is_inline_white rest → line o false following ≡ stopped r k
+      → comment_end o c cs ≡ None → following ≡ skipped is_inline_white rest
+      → line_text o false following ≡ stopped r k
       → value o text ≡ stopped r k
   tail_line_stops {rest = rest} st is b none from h =
       tail_stops st (sym (prepend-nil (more_lines o rest))
-      ∙ line_stops o [] (line_feed ∷ []) is b from none refl (ap (prepend (line_feed ∷ [])) h))
+      ∙ line_stops o [] (line_feed ∷ []) is b from none refl
+      (ap (prepend (line_feed ∷ [])) (line_stopped o _ _ h)))
 
   -- an indented comment
   module _ {tail rest cs end given : List ℕ} {c : ℕ} (on : o.enabled_indented_mutiline_value ≡ true)
@@ -336,54 +405,59 @@ module _ (o : ParseOption) {text start : List ℕ} (skips : start ≡ skipped is
           (tail_row (s ++ e) [] st
           (sym whole ∙ ap (λ y. s ++ y) (sym q) ∙ sym (append_assoc s e next)) turned.0 row refl)
 
-  -- a line that begins with a blank
-  module _ {tail rest cs following end u given : List ℕ} {c : ℕ}
+  -- a line that begins with a blank: after its text stands `left`, and after its note `end`
+  module _ {tail rest cs following left end u given : List ℕ} {c : ℕ}
       (on : o.enabled_indented_mutiline_value ≡ true) (st : TailSoFar o text start tail rest given)
       (is : rest ≡ c ∷ cs) (b : is_blank c ≡ true) (no_comment : comment_end o c cs ≡ None)
-      (from : following ≡ skipped is_inline_white rest) (read : line o false following ≡ found u end) where
-    here : LineAt o rest end u
-    here = line_at o is b no_comment from read
+      (from : following ≡ skipped is_inline_white rest) (read : line_text o false following ≡ found u left)
+      (cut : end ≡ past_note o left) where
+    here : LineAt o rest left end u
+    here = line_at o is b no_comment from cut read
 
-    own_line : list_all is_line_feed u ≡ false → OwnLines o (st.before ++ (here.w ++ here.l)) end
+    own_line : list_all is_line_feed u ≡ false → OwnLines o (st.before ++ (here.w ++ here.l)) left
     own_line some =
-        st.grows (here.w ++ here.l) end here.whole (LastLine.last here.goes here.ln some)
+        st.grows (here.w ++ here.l) left here.whole (LastLine.last here.goes here.ln some)
 
-    own_whole : start ≡ (st.before ++ (here.w ++ here.l)) ++ end
+    own_whole : start ≡ (st.before ++ (here.w ++ here.l)) ++ left
     own_whole =
         st.start_is ∙ ap (λ x. st.before ++ x) (sym here.whole)
-        ∙ sym (append_assoc st.before (here.w ++ here.l) end)
+        ∙ sym (append_assoc st.before (here.w ++ here.l) left)
 
     feed_first : prepend (line_feed ∷ []) (line o false following) ≡ found (line_feed ∷ u) end
-    feed_first = ap (prepend (line_feed ∷ [])) read
+    feed_first = ap (prepend (line_feed ∷ [])) (line_read o _ _ cut read)
 
     module _ (none : after_end end ≡ None) where
       ended : end ≡ []
-      ended = no_end end (Line-closes here.ln) none
+      ended = no_end end (LineTail-closes here.at.is_note) none
 
       -- it is the last, and gives nothing
       pub last_line-empty : list_all is_line_feed u ≡ true
           → HasTail o text start tail (without_outer_line_feeds (given ++ (line_feed ∷ u))) end
       last_line-empty all =
-          let goes : GoesOn o here.w here.l =
-          subst (GoesOn o here.w) (ap (λ x. here.l ++ x) ended ∙ append-nil here.l) here.goes in
-          let whole : (here.w ++ here.l) ++ [] ≡ rest =
-          ap (λ x. (here.w ++ here.l) ++ x) (sym ended) ∙ here.whole in
+          let l = row_line o here in
+          let goes : GoesOn o here.w l =
+          subst (GoesOn o here.w) (ap (λ x. l ++ x) ended ∙ append-nil l) (row_goes o here) in
+          let whole : (here.w ++ l) ++ [] ≡ rest =
+          ap (λ x. (here.w ++ l) ++ x) (sym ended) ∙ append_assoc here.w l end ∙ text_whole o here in
           subst (HasTail o text start tail (without_outer_line_feeds (given ++ (line_feed ∷ u)))) (sym ended)
-          (tail_done on st (here.w ++ here.l) [] (line_feed ∷ u) whole
-          (MoreLines.last goes (subst (λ x. Line o false here.l x u) ended here.ln)) all)
+          (tail_done on st (here.w ++ l) [] (line_feed ∷ u) whole
+          (MoreLines.last goes (subst (λ x. Line o false l x u) ended (row_ln o here))) all)
 
       pub last_line-own : list_all is_line_feed u ≡ false
-          → HasTail o text start end (without_outer_line_feeds (given ++ (line_feed ∷ u))) end
+          → HasTail o text start left (without_outer_line_feeds (given ++ (line_feed ∷ u))) end
       last_line-own some = record {
         own = st.before ++ (here.w ++ here.l);
+        note = here.at.note;
         following = [];
         skips = skips;
         own_is = own_whole;
-        tail_is = refl;
+        tail_is = sym here.at.whole;
+        past_note = sym cut;
         reads = st.reads ∙ ap (λ a. altered_answer without_outer_line_feeds (prepend given a))
             (sym (prepend-nil (more_lines o rest))
             ∙ line_ends o [] (line_feed ∷ []) is b from no_comment refl feed_first none);
         own_lines = own_line some;
+        is_note = here.at.is_note;
         is_tail = subst (TrailingLines o []) (sym ended) (TrailingLines.end on);
       }
 
@@ -409,7 +483,7 @@ module _ (o : ParseOption) {text start : List ℕ} (skips : start ≡ skipped is
           (line_row o here e le q) all
 
       pub line-own : list_all is_line_feed u ≡ false
-          → TailSoFar o text start end next (given ++ (line_feed ∷ u))
+          → TailSoFar o text start left next (given ++ (line_feed ∷ u))
       line-own gives =
           let (e, le, q) = end_said in
           let p = row_source o here e le q in
@@ -418,11 +492,14 @@ module _ (o : ParseOption) {text start : List ℕ} (skips : start ≡ skipped is
           record {
             before = st.before ++ p;
             own = st.before ++ (here.w ++ here.l);
+            note = here.at.note;
             end = e;
             lines = [];
             start_is = moved;
             own_is = own_whole;
-            tail_is = sym q;
+            tail_is = sym here.at.whole ∙ ap (λ x. here.at.note ++ x) (sym q);
+            past_note = sym cut ∙ sym q;
+            is_note = subst (LineTail here.at.note) (sym q) here.at.is_note;
             own_lines = own_line gives;
             ends = le;
             reads = st.reads ∙ ap (λ a. altered_answer without_outer_line_feeds (prepend given a)) turn

@@ -12,12 +12,12 @@ use Rattle.ini_text.proofs.ReaderLemmas.StringReaderLemmas.{no-backslash}
 use Rattle.ini_text.specs.declared.option.ParseOption.{ParseOption}
 use Rattle.ini_text.specs.declared.write.policy.EscapePolicy.{EscapePolicy}
 use Rattle.ini_text.specs.declared.write.policy.EscapePolicy.TheVariants.{Nothing, Basics, BasicsUnicode, BasicsUnicodeExtended, Reserved, ReservedUnicode, ReservedUnicodeExtended, Everything}
-use Rattle.ini_text.specs.Grammar.CharacterKinds.{backslash, letter_x, plus, is_line_end, is_comment_mark, is_separator}
-use Rattle.ini_text.specs.Escaping.EscapedTexts.{escape, escape_by, escaped, hex_digits}
+use Rattle.ini_text.specs.Grammar.CharacterKinds.{backslash, letter_x, plus, begins, is_blank, is_line_end, is_comment_mark, is_separator, BeginsWithNo}
+use Rattle.ini_text.specs.Escaping.EscapedTexts.{escape, escape_by, escaped, hex_digits, letter_of}
 use Rattle.ini_text.specs.Grammar.EscapeSequences.{EscapeSequence, control, spelled}
-use Rattle.ini_text.specs.Laws.Plain.{IsReadBack, has_unread_letter}
+use Rattle.ini_text.specs.Laws.Plain.{IsReadBack, has_bare_note, has_unread_letter}
 use Rattle.ini_text.specs.Escaping.Policies.{is_basic, is_escaped, is_extended, is_reserved}
-use Rattle.ini_text.specs.Grammar.Strings.{Ends, Row, is_endpoint}
+use Rattle.ini_text.specs.Grammar.Strings.{Ends, Row, is_before_note, is_endpoint}
 use Rattle.ini_text.proofs.GrammarLemmas.SpellingLemmas.{spelled_value, first_other}
 
 -- the last hexadecimal digit of a number
@@ -189,25 +189,85 @@ all_read policy text read = elim read.is_read [
   | inr n ↦ all_raw policy text n.no_escaped n.no_backslash
 ]
 
+-- what an escaped text begins with: a backslash, or its first character, which isn't escaped
+escape_by-begins : (letter : Option ℕ) (c : ℕ) → (y : List ℕ) × (escape_by letter c ≡ backslash ∷ y)
+escape_by-begins (Some letter) c = (letter ∷ [], refl)
+escape_by-begins None c = (_, refl)
+
+escape-begins : (c : ℕ) → (y : List ℕ) × (escape c ≡ backslash ∷ y)
+unfolding escape
+escape-begins c = escape_by-begins (letter_of c) c
+
+pub escaped_begins : (P : List ℕ → Type 0) → ((y : List ℕ) → P (backslash ∷ y)) → (policy : EscapePolicy)
+    (c : ℕ) (cs x : List ℕ) → (is_escaped policy c ≡ false → (y : List ℕ) → P (c ∷ y))
+    → P (escaped policy (c ∷ cs) ++ x)
+escaped_begins P slash policy c cs x raw =
+    cond_both (is_escaped policy c) (escape c) (c ∷ []) (λ p. P ((p ++ escaped policy cs) ++ x))
+    (λ h. let e = escape-begins c in subst (λ p. P ((p ++ escaped policy cs) ++ x)) (sym e.1)
+    (slash ((e.0 ++ escaped policy cs) ++ x)))
+    (λ h. raw h (escaped policy cs ++ x))
+
+-- where strings end before notes, the text has no bare one
+abbrev pub NoBareNote : EscapePolicy → Ends → List ℕ → Type 0
+NoBareNote policy ends text = ends.notes ≡ true → has_bare_note policy text ≡ false
+
+-- of a comment mark that isn't escaped
+abbrev is_bare_mark : EscapePolicy → ℕ → Bool
+is_bare_mark policy c = is_comment_mark c && not (is_escaped policy c)
+
+-- a text that no bare mark begins is written so that no mark begins it
+no_mark_begins : (policy : EscapePolicy) (text t : List ℕ) → BeginsWithNo is_comment_mark t
+    → begins (is_bare_mark policy) text ≡ false → begins is_comment_mark (escaped policy text ++ t) ≡ false
+no_mark_begins policy [] [] h bare = refl
+no_mark_begins policy [] (d ∷ t) h bare = h
+no_mark_begins policy (c ∷ cs) t h bare =
+    escaped_begins (λ l. begins is_comment_mark l ≡ false) (λ y. refl) policy c cs t
+    (λ raw y. unmarked (is_comment_mark c) (is_escaped policy c) bare raw)
+  where
+    unmarked : (a b : Bool) → (a && not b) ≡ false → b ≡ false → a ≡ false
+    unmarked true true h q = q
+    unmarked true false h q = h
+    unmarked false b h q = refl
+
+-- the same of a character before a text: it is no blank before a note
+no_note_behind : (policy : EscapePolicy) (ends : Ends) (c : ℕ) (cs t : List ℕ)
+    → BeginsWithNo is_comment_mark t → NoBareNote policy ends (c ∷ cs) → is_escaped policy c ≡ false
+    → is_before_note ends c (escaped policy cs ++ t) ≡ false
+no_note_behind policy ends c cs t h unnoted raw =
+    at ends.notes (is_blank c) (is_escaped policy c) (begins (is_bare_mark policy) cs)
+    (begins is_comment_mark (escaped policy cs ++ t)) raw (no_mark_begins policy cs t h)
+    (λ on. (or_parts _ (has_bare_note policy cs) (unnoted on)).0)
+  where
+    at : (n b e m k : Bool) → e ≡ false → (m ≡ false → k ≡ false) → (n ≡ true → (b && not e && m) ≡ false)
+        → (n && (b && k)) ≡ false
+    at true true true m k raw unmarked unnoted = absurd (both_ways true raw refl)
+    at true true false m k raw unmarked unnoted = unmarked (unnoted refl)
+    at true false e m k raw unmarked unnoted = refl
+    at false b e m k raw unmarked unnoted = refl
+
 -- no character that isn't escaped is an endpoint
 abbrev pub NoRawEnd : EscapePolicy → Ends → List ℕ → Type 0
 NoRawEnd policy ends text = list_all (λ c. not (is_endpoint ends c) || is_escaped policy c) text ≡ true
 
--- an escaped text before a row of pieces
+-- an escaped text before a row of pieces that no comment mark begins
 pub row_escaped : {escapes : Backslash} {policy : EscapePolicy} {ends : Ends} {t v : List ℕ} (text : List ℕ)
-    → AllRead escapes policy text → NoRawEnd policy ends text
+    → AllRead escapes policy text → NoRawEnd policy ends text → NoBareNote policy ends text
+    → BeginsWithNo is_comment_mark t
     → Row escapes ends t v → Row escapes ends (escaped policy text ++ t) (text ++ v)
-row_escaped [] AllRead.none n row = row
-row_escaped {escapes} {policy} {ends} {t} {v} (c ∷ cs) (AllRead.more one all) n row =
+row_escaped [] AllRead.none n unnoted h row = row
+row_escaped {escapes} {policy} {ends} {t} {v} (c ∷ cs) (AllRead.more one all) n unnoted h row =
     let parts = and_parts (not (is_endpoint ends c) || is_escaped policy c)
     (list_all (λ c. not (is_endpoint ends c) || is_escaped policy c) cs) n in
-    let rest : Row escapes ends (escaped policy cs ++ t) (cs ++ v) = row_escaped cs all parts.1 row in
+    let later : NoBareNote policy ends cs = λ on. (or_parts _ (has_bare_note policy cs) (unnoted on)).1 in
+    let rest : Row escapes ends (escaped policy cs ++ t) (cs ++ v) =
+    row_escaped cs all parts.1 later h row in
     cond_both (is_escaped policy c) (escape c) (c ∷ [])
     (λ p. Row escapes ends ((p ++ escaped policy cs) ++ t) (c ∷ (cs ++ v)))
-    (λ h.
+    (λ q.
     rw (append_assoc (escape c) (escaped policy cs) t)
-    (Row.escape (one.by_escape h).0 (one.by_escape h).1 rest))
-    (λ h. Row.raw (one.raw h) (raw_end (is_endpoint ends c) (is_escaped policy c) parts.0 h) rest)
+    (Row.escape (one.by_escape q).0 (one.by_escape q).1 rest))
+    (λ q. Row.raw (one.raw q) (raw_end (is_endpoint ends c) (is_escaped policy c) parts.0 q)
+    (no_note_behind policy ends c cs t h unnoted q) rest)
   where
     raw_end : (x y : Bool) → (not x || y) ≡ true → y ≡ false → x ≡ false
     raw_end true y h q = absurd (both_ways y q h)

@@ -1,8 +1,8 @@
 -- Headers as they are written, read back, with brackets in names and without them.
 use Rattle.std.proofs.Common.{◌≡◌, inl, inr, ℕ, Bool, true, cond, List, [], ◌∷◌, ◌++◌, refl, subst, arith}
+use Rattle.std.proofs.Math.Bool.{and-false}
 use Rattle.std.proofs.lemmas.Bool.{cases_Bool}
 use Rattle.ini_text.proofs.ReaderLemmas.StringReaderLemmas.{no-backslash}
-use Rattle.ini_text.specs.Options.Backslashes.{Backslash}
 use Rattle.ini_text.specs.declared.option.ParseOption.{ParseOption}
 use Rattle.ini_text.specs.declared.write.policy.EscapePolicy.{EscapePolicy}
 use Rattle.ini_text.specs.declared.write.option.LineSeparator.{LineSeparator}
@@ -11,11 +11,12 @@ use Rattle.ini_text.specs.declared.write.option.WriteOption.{WriteOption}
 use Rattle.ini_text.specs.Options.WriteOptions.{line_end}
 use Rattle.ini_text.specs.Grammar.CharacterKinds.{close_bracket, open_bracket}
 use Rattle.ini_text.specs.Escaping.EscapedTexts.{escaped}
-use Rattle.ini_text.specs.Grammar.Strings.{Row, Str, Closes, bracketed_name_ends}
+use Rattle.ini_text.specs.Grammar.Strings.{Row, Str, Closes, bracketed_name_ends, noted}
+use Rattle.ini_text.specs.Options.ReadOptions.{backslash_of}
 use Rattle.ini_text.specs.Grammar.Elements.{Header, Element}
 use Rattle.ini_text.specs.Laws.Plain.{IsPlainName}
 use Rattle.ini_text.specs.Laws.PlainLaws.{IsHeaderLine, line_ends}
-use Rattle.ini_text.proofs.PlainLemmas.EscapedTextLemmas.{AllRead, all_read, row_escaped}
+use Rattle.ini_text.proofs.PlainLemmas.EscapedTextLemmas.{AllRead, NoBareNote, all_read, row_escaped}
 use Rattle.ini_text.proofs.PlainLemmas.PlainLineLemmas.{header_element, header_line_of}
 use Rattle.ini_text.proofs.PlainLemmas.PlainPairLemmas.{value_no_end}
 
@@ -30,19 +31,21 @@ line_ends_close w twice r = at w.line_separator twice
     at CR twice = refl
     at CRLF twice = refl
 
-bracketed_row : {escapes : Backslash} {policy : EscapePolicy} (name : List ℕ) → AllRead escapes policy name
-    → Row escapes bracketed_name_ends (escaped policy name ++ close_bracket ∷ [])
+bracketed_row : (o : ParseOption) {policy : EscapePolicy} (name : List ℕ)
+    → AllRead (backslash_of o) policy name → NoBareNote policy (noted o bracketed_name_ends) name
+    → Row (backslash_of o) (noted o bracketed_name_ends) (escaped policy name ++ close_bracket ∷ [])
     (name ++ close_bracket ∷ [])
-bracketed_row {escapes} name all =
-    row_escaped name all (value_no_end all)
-    (Row.raw (no-backslash escapes close_bracket (λ e. absurd (omega arith))) refl Row.none)
+bracketed_row o name all unnoted =
+    row_escaped name all (value_no_end all) unnoted refl
+    (Row.raw (no-backslash (backslash_of o) close_bracket (λ e. absurd (omega arith))) refl
+    (and-false o.enabled_inline_comment) Row.none)
 
 bracketed_element : {o : ParseOption} {b : List ℕ} (policy : EscapePolicy) (name : List ℕ) (w : WriteOption)
     (twice : Bool) (r : List ℕ) → o.enabled_brackets_in_section_names ≡ true → IsPlainName o policy name
     → Element o b (open_bracket ∷ (escaped policy name ++ close_bracket ∷ [])) (line_ends w twice ++ r)
     (Header name ∷ [])
 bracketed_element {o} {b} policy name w twice r on p =
-    let row = bracketed_row name (all_read {o = o} policy name p.read_back) in
+    let row = bracketed_row o name (all_read {o = o} policy name p.read_back) (p.no_note on) in
     let header = Element.bracketed_header on (Str.closed row (line_ends_close w twice r))
     (record { blanks = []; blank = refl; whole = refl }) in
     let source = open_bracket ∷ (escaped policy name ++ close_bracket ∷ []) in

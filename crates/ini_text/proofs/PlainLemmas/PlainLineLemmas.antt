@@ -1,6 +1,6 @@
 -- Headers and pairs as they are written, read back.
 use Rattle.std.proofs.Common.{◌≡◌, ℕ, Bool, true, false, not, ◌||◌, cond, eqb, List, [], ◌∷◌, ◌++◌, refl, sym, ap, ◌∙◌, subst, append_assoc, append-nil}
-use Rattle.std.proofs.lemmas.Bool.{or_left, or_from, and_parts, and_from, not-true, both_ways}
+use Rattle.std.proofs.lemmas.Bool.{or_left, or_from, and_parts, and_from, not-true, both_ways, false≢true}
 use Rattle.std.specs.List.{list_all}
 use Rattle.ini_text.specs.Options.Backslashes.{Backslash}
 use Rattle.ini_text.specs.declared.option.ParseOption.{ParseOption}
@@ -19,7 +19,7 @@ use Rattle.ini_text.specs.Laws.Plain.{IsPlainName}
 use Rattle.ini_text.specs.Laws.PlainLaws.{AreGaps, GivesLine, IsElementThenGaps, IsHeaderLine, header_source, line_ends}
 use Rattle.ini_text.specs.Options.WriteOptions.{line_end}
 use Rattle.ini_text.proofs.GrammarLemmas.KindLemmas.{line_end_no_blank}
-use Rattle.ini_text.proofs.PlainLemmas.EscapedTextLemmas.{AllRead, NoRawEnd, all_read, row_escaped}
+use Rattle.ini_text.proofs.PlainLemmas.EscapedTextLemmas.{AllRead, NoBareNote, NoRawEnd, all_read, row_escaped}
 use Rattle.ini_text.proofs.LawLemmas.MovedLemmas.{last_or-after}
 use Rattle.ini_text.proofs.PlainLemmas.PlainTrimLemmas.{line_end_is_white}
 
@@ -101,9 +101,11 @@ name_no_end policy (c ∷ cs) h =
 
 -- the row of an escaped text alone
 pub row_of : {escapes : Backslash} {policy : EscapePolicy} {ends : Ends} (text : List ℕ)
-    → AllRead escapes policy text → NoRawEnd policy ends text → Row escapes ends (escaped policy text) text
-row_of {escapes} {policy} {ends} text all n =
-    let row : Row escapes ends (escaped policy text ++ []) (text ++ []) = row_escaped text all n Row.none in
+    → AllRead escapes policy text → NoRawEnd policy ends text → NoBareNote policy ends text
+    → Row escapes ends (escaped policy text) text
+row_of {escapes} {policy} {ends} text all n unnoted =
+    let row : Row escapes ends (escaped policy text ++ []) (text ++ []) =
+    row_escaped text all n unnoted tt Row.none in
     rw (append-nil (escaped policy text), append-nil text) at row
 
 pub header_element : {o : ParseOption} {b r : List ℕ} (policy : EscapePolicy) (name : List ℕ)
@@ -111,7 +113,7 @@ pub header_element : {o : ParseOption} {b r : List ℕ} (policy : EscapePolicy) 
     → Element o b (open_bracket ∷ (escaped policy name ++ close_bracket ∷ [])) r (Header name ∷ [])
 header_element {o} {b} {r} policy name off p =
     let row = row_of {ends = name_ends} name (all_read {o = o} policy name p.read_back)
-    (name_no_end policy name (p.no_bracket off)) in
+    (name_no_end policy name (p.no_bracket off)) (λ on. absurd (false≢true on)) in
     subst (λ n. Element o b (open_bracket ∷ (escaped policy name ++ close_bracket ∷ [])) r
     (Header n ∷ [])) p.is_trimmed (Element.header off (Str.closed row refl))
 

@@ -1,6 +1,6 @@
 -- Pairs as they are written, read back.
-use Rattle.std.proofs.Common.{◌≡◌, ◌≢◌, ◌⊎◌, inl, inr, ℕ, Bool, true, false, not, ◌||◌, ◌&&◌, cond, eqb, eqb-true, List, [], ◌∷◌, ◌++◌, refl, sym, ap, ◌∙◌, subst, append_assoc, append-nil, Option, Some, None, chars}
-use Rattle.std.proofs.lemmas.Bool.{cond_both, cond-true, cond-false, or_left, or_right, or_from, or_cases, and_left, and_right, and_parts, and_from, both_ways, false_from_ne_true, cases_Bool}
+use Rattle.std.proofs.Common.{◌≡◌, ◌≢◌, ◌⊎◌, inl, inr, ℕ, Bool, true, false, not, ◌||◌, ◌&&◌, cond, eqb, eqb-true, List, [], ◌∷◌, ◌++◌, refl, sym, ap, ◌∙◌, subst, append_assoc, append-nil, chars}
+use Rattle.std.proofs.lemmas.Bool.{cond_both, cond-true, cond-false, or_left, or_right, or_from, or_cases, or_parts, and_left, and_right, and_parts, and_from, both_ways, false_from_ne_true, cases_Bool}
 use Rattle.std.specs.Char.{is_whitespace}
 use Rattle.std.specs.List.{list_all}
 use Rattle.ini_text.proofs.ReaderLemmas.NoteLemmas.{no_mark_no_note}
@@ -8,56 +8,41 @@ use Rattle.ini_text.proofs.ReaderLemmas.StringReaderLemmas.{no-backslash}
 use Rattle.ini_text.specs.Options.Backslashes.{Backslash}
 use Rattle.ini_text.specs.Options.ReadOptions.{backslash_of}
 use Rattle.ini_text.specs.declared.option.LoneLine.{LoneLine}
-use Rattle.ini_text.specs.declared.option.LoneLine.TheVariants.{RunsOn, Refused}
+use Rattle.ini_text.specs.declared.option.LoneLine.TheVariants.{RunsOn, Refused, Key}
 use Rattle.ini_text.specs.declared.option.ParseOption.{ParseOption}
 use Rattle.ini_text.specs.declared.write.policy.EscapePolicy.{EscapePolicy}
 use Rattle.ini_text.specs.declared.write.policy.EscapePolicy.TheVariants.{Nothing, Basics, BasicsUnicode, BasicsUnicodeExtended, Reserved, ReservedUnicode, ReservedUnicodeExtended, Everything}
 use Rattle.ini_text.specs.declared.write.option.LineSeparator.{LineSeparator}
 use Rattle.ini_text.specs.declared.write.option.WriteOption.{WriteOption}
 use Rattle.ini_text.specs.declared.write.option.LineSeparator.TheVariants.{SystemDefault, CR, CRLF}
-use Rattle.ini_text.specs.Grammar.CharacterKinds.{backslash, line_feed, carriage_return, open_bracket, space, is_blank, is_comment_mark, is_inline_white, is_line_end, is_line_feed, is_quote_mark, is_separator, BeginsWith, BeginsWithNo}
-use Rattle.ini_text.specs.Escaping.EscapedTexts.{escape, escape_by, escaped, letter_of}
+use Rattle.ini_text.specs.Grammar.CharacterKinds.{backslash, line_feed, carriage_return, open_bracket, space, begins, is_blank, is_comment_mark, is_inline_white, is_line_end, is_line_feed, is_quote_mark, is_separator, BeginsWith, BeginsWithNo}
+use Rattle.ini_text.specs.Escaping.EscapedTexts.{escape, escaped}
 use Rattle.ini_text.specs.Escaping.Policies.{is_escaped}
 use Rattle.ini_text.specs.Grammar.WhiteSpace.{Lead, trimmed, end_trimmed}
-use Rattle.ini_text.specs.Grammar.Strings.{Row, Str, is_endpoint, key_ends, plain_ends}
-use Rattle.ini_text.specs.Grammar.Lines.{Line, Quoted, BeginsPlain}
+use Rattle.ini_text.specs.Grammar.Strings.{Closes, Row, Str, is_endpoint, key_ends, noted_key_ends, plain_ends}
+use Rattle.ini_text.specs.Grammar.Lines.{Line, LineText, Quoted, BeginsPlain}
 use Rattle.ini_text.specs.Grammar.Values.{LineEnd, MoreLines, Value}
 use Rattle.ini_text.specs.Grammar.Keys.{Indentation, KeyFront, begins_key, begins_indented_key, begins_note}
 use Rattle.ini_text.specs.Grammar.Positions.{last_or, starts_line, is_column_one}
 use Rattle.ini_text.specs.Grammar.Elements.{Pair, Element}
-use Rattle.ini_text.specs.Laws.Plain.{IsPlainSeparator, IsBareKey, IsIndentedByEscape, IsPlainKey, IsPlainValue, IsPlainPair}
+use Rattle.ini_text.specs.Laws.Plain.{has_bare_note, IsPlainSeparator, IsBareKey, IsIndentedByEscape, IsPlainKey, IsPlainValue, IsPlainPair}
 use Rattle.ini_text.specs.Laws.PlainLaws.{AreGaps, FollowsPair, GivesLine, IsPairLine, line_ends, pair_source}
 use Rattle.ini_text.specs.Options.WriteOptions.{line_end}
-use Rattle.ini_text.proofs.GrammarLemmas.KindLemmas.{no_white_no_blank}
-use Rattle.ini_text.proofs.PlainLemmas.EscapedTextLemmas.{AllRead, NoRawEnd, all_read, row_escaped}
+use Rattle.ini_text.proofs.GrammarLemmas.KindLemmas.{comment_mark-apart, no_white_no_blank}
+use Rattle.ini_text.proofs.GrammarLemmas.LineLemmas.{line_of_text}
+use Rattle.ini_text.proofs.PlainLemmas.EscapedTextLemmas.{AllRead, NoBareNote, NoRawEnd, all_read, escaped_begins, row_escaped}
 use Rattle.ini_text.proofs.PlainLemmas.PlainLineLemmas.{element_then_gaps-gives, line_end_gaps, line_ends_column, row_of}
 use Rattle.ini_text.proofs.PlainLemmas.PlainTrimLemmas.{line_end_is_white, trimmed_begins, trimmed_end, end_trimmed-blanks, trimmed-blanks, end_trimmed-after, some_after, without_line_feeds-trimmed}
 
 -- what an escaped text begins with: a backslash, or its first character, which isn't escaped
-escape_by-begins : (letter : Option ℕ) (c : ℕ) → (y : List ℕ) × (escape_by letter c ≡ backslash ∷ y)
-escape_by-begins (Some letter) c = (letter ∷ [], refl)
-escape_by-begins None c = (_, refl)
-
-escape-begins : (c : ℕ) → (y : List ℕ) × (escape c ≡ backslash ∷ y)
-unfolding escape
-escape-begins c = escape_by-begins (letter_of c) c
-
 module _ (P : List ℕ → Type 0) (slash : (y : List ℕ) → P (backslash ∷ y)) (policy : EscapePolicy) where
-  pub escaped_begins : (c : ℕ) (cs x : List ℕ) → (is_escaped policy c ≡ false → (y : List ℕ) → P (c ∷ y))
-      → P (escaped policy (c ∷ cs) ++ x)
-  escaped_begins c cs x raw =
-      cond_both (is_escaped policy c) (escape c) (c ∷ []) (λ p. P ((p ++ escaped policy cs) ++ x))
-      (λ h. let e = escape-begins c in subst (λ p. P ((p ++ escaped policy cs) ++ x)) (sym e.1)
-      (slash ((e.0 ++ escaped policy cs) ++ x)))
-      (λ h. raw h (escaped policy cs ++ x))
-
   -- a bare key begins with no white space, comment's mark or bracket
   pub bare_begins : {o : ParseOption} {key : List ℕ} (x : List ℕ) → IsBareKey o policy key
       → ((c : ℕ) (y : List ℕ) → is_whitespace c ≡ false → is_comment_mark c ≡ false
       → eqb c open_bracket ≡ false → P (c ∷ y)) → P (escaped policy key ++ x)
   bare_begins {o} {key = []} x bare raw = absurd (bare.some refl)
   bare_begins {o} {key = c ∷ cs} x bare raw =
-      escaped_begins c cs x
+      escaped_begins P slash policy c cs x
       (λ h y. raw c y (no_white h bare.is_trimmed)
       (and_no_not (is_comment_mark c) (is_escaped policy c) bare.no_comment h) bare.no_bracket)
     where
@@ -81,7 +66,7 @@ module _ (P : List ℕ → Type 0) (slash : (y : List ℕ) → P (backslash ∷ 
       → P (c ∷ y)) → P (escaped policy value ++ l ∷ x)
   value_begins {o} {value = []} l x plain h ends raw = ends x
   value_begins {o} {value = c ∷ cs} l x plain h ends raw =
-      escaped_begins c
+      escaped_begins P slash policy c
       cs (l ∷ x) (λ _ y. raw c y (trimmed_begins (c ∷ cs) plain.is_trimmed) plain.no_quote_mark)
 
 pub no_white_no_line_end : (c : ℕ) → is_whitespace c ≡ false → is_line_end c ≡ false
@@ -100,8 +85,8 @@ module _ {o : ParseOption} (policy : EscapePolicy) where
   pub bare_indented : {key : List ℕ} (x : List ℕ) → IsBareKey o policy key
       → BeginsWith (begins_indented_key o) (escaped policy key ++ x)
   bare_indented x bare =
-      bare_begins (BeginsWith (begins_indented_key o)) (λ y. ap not (no_mark_no_note o backslash refl)) policy x bare
-      (λ c y white mark bracket.
+      bare_begins (BeginsWith (begins_indented_key o)) (λ y. ap not (no_mark_no_note o backslash refl))
+      policy x bare (λ c y white mark bracket.
       ap not (or_from _ (begins_note o c) (or_from _ (eqb c open_bracket)
       (or_from (is_blank c) (is_line_end c) (no_white_no_blank c white)
       (no_white_no_line_end c white)) bracket) (no_mark_no_note o c mark)))
@@ -145,16 +130,31 @@ blank_no_key_end RunsOn c h = elim (or_cases (eqb c 0x20) (eqb c 0x09) h)
     [ inl q ↦ rw (eqb-true c 0x20 q) refl | inr q ↦ rw (eqb-true c 0x09 q) refl ]
 blank_no_key_end Refused c h = elim (or_cases (eqb c 0x20) (eqb c 0x09) h)
     [ inl q ↦ rw (eqb-true c 0x20 q) refl | inr q ↦ rw (eqb-true c 0x09 q) refl ]
+blank_no_key_end Key c h = elim (or_cases (eqb c 0x20) (eqb c 0x09) h)
+    [ inl q ↦ rw (eqb-true c 0x20 q) refl | inr q ↦ rw (eqb-true c 0x09 q) refl ]
+
+-- no mark begins blanks
+no_mark_in_blanks : (w : List ℕ) → list_all is_blank w ≡ true → BeginsWithNo is_comment_mark w
+no_mark_in_blanks [] h = tt
+no_mark_in_blanks (c ∷ w) h =
+    let blank = (and_parts (is_blank c) (list_all is_blank w) h).0 in
+    false_from_ne_true (is_comment_mark c) (λ m. both_ways (is_blank c) (comment_mark-apart c m).0 blank)
 
 -- blanks stand for themselves in a key
-blank_row : {escapes : Backslash} (line : LoneLine) (w : List ℕ) → list_all is_blank w ≡ true
-    → Row escapes (key_ends line) w w
-blank_row line [] h = Row.none
-blank_row line (c ∷ w) h =
+blank_row : {escapes : Backslash} (o : ParseOption) (w : List ℕ) → list_all is_blank w ≡ true
+    → Row escapes (noted_key_ends o) w w
+blank_row o [] h = Row.none
+blank_row o (c ∷ w) h =
     let parts = and_parts (is_blank c) (list_all is_blank w) h in
-    Row.raw (no-backslash _ _ (λ s. blank_no_backslash c s parts.0)) (blank_no_key_end line c parts.0)
-    (blank_row line w parts.1)
+    let unnoted = and_right (is_blank c) _ (unmarked w (no_mark_in_blanks w parts.1)) in
+    Row.raw (no-backslash _ _ (λ s. blank_no_backslash c s parts.0))
+    (blank_no_key_end o.line_without_separator c parts.0) (and_right (noted_key_ends o).notes _ unnoted)
+    (blank_row o w parts.1)
   where
+    unmarked : (w : List ℕ) → BeginsWithNo is_comment_mark w → begins is_comment_mark w ≡ false
+    unmarked [] h = refl
+    unmarked (c ∷ w) h = h
+
     blank_no_backslash : (c : ℕ) → c ≡ backslash → is_blank c ≡ true → ⊥
     blank_no_backslash c s h = let z = subst (λ x. is_blank x ≡ true) s h in cc
 
@@ -163,6 +163,8 @@ pub separator_closes : (line : LoneLine) (m : ℕ) → is_separator m ≡ true
 separator_closes RunsOn m h = elim (or_cases (eqb m 0x3D) (eqb m 0x3A) h)
     [ inl q ↦ rw (eqb-true m 0x3D q) refl | inr q ↦ rw (eqb-true m 0x3A q) refl ]
 separator_closes Refused m h = elim (or_cases (eqb m 0x3D) (eqb m 0x3A) h)
+    [ inl q ↦ rw (eqb-true m 0x3D q) refl | inr q ↦ rw (eqb-true m 0x3A q) refl ]
+separator_closes Key m h = elim (or_cases (eqb m 0x3D) (eqb m 0x3A) h)
     [ inl q ↦ rw (eqb-true m 0x3D q) refl | inr q ↦ rw (eqb-true m 0x3A q) refl ]
 
 -- a text without raw separators and line ends has no raw end of a key
@@ -183,21 +185,22 @@ key_no_end line policy (c ∷ cs) h free =
     runs false true z h = h
     runs false false z h = h
 
-    refused : (x y l r z : Bool) → (not (x || y) || z) ≡ true → (not (l || (r || false)) || z) ≡ true
+    with_line : (x y l r z : Bool) → (not (x || y) || z) ≡ true → (not (l || (r || false)) || z) ≡ true
         → (not (x || (y || (l || (r || false)))) || z) ≡ true
-    refused true y l r z h k = h
-    refused false true l r z h k = h
-    refused false false l r z h k = k
+    with_line true y l r z h k = h
+    with_line false true l r z h k = h
+    with_line false false l r z h k = k
 
     at : (line : LoneLine) → (not (is_separator c) || is_escaped policy c) ≡ true
         → (not (is_endpoint plain_ends c) || is_escaped policy c) ≡ true
         → (not (is_endpoint (key_ends line) c) || is_escaped policy c) ≡ true
     at RunsOn h k = runs (eqb c 0x3D) (eqb c 0x3A) (is_escaped policy c) h
-    at Refused h k = refused (eqb c 0x3D) (eqb c 0x3A) (eqb c 0x0A) (eqb c 0x0D) (is_escaped policy c) h k
+    at Refused h k = with_line (eqb c 0x3D) (eqb c 0x3A) (eqb c 0x0A) (eqb c 0x0D) (is_escaped policy c) h k
+    at Key h k = with_line (eqb c 0x3D) (eqb c 0x3A) (eqb c 0x0A) (eqb c 0x0D) (is_escaped policy c) h k
 
 -- a bare key, and blanks after it, before a separator
 module _ {o : ParseOption} {policy : EscapePolicy} {key : List ℕ} (bare : IsBareKey o policy key)
-    (all : AllRead (backslash_of o) policy key) where
+    (all : AllRead (backslash_of o) policy key) (unnoted : NoBareNote policy (noted_key_ends o) key) where
   bare_end : end_trimmed key ≡ key
   bare_end = elim bare.is_trimmed [
     | inl t ↦ trimmed_end key t
@@ -205,12 +208,12 @@ module _ {o : ParseOption} {policy : EscapePolicy} {key : List ℕ} (bare : IsBa
   ]
 
   bare_string : (w r : List ℕ) (m : ℕ) → list_all is_blank w ≡ true → is_separator m ≡ true
-      → Str (backslash_of o) (key_ends o.line_without_separator) (escaped policy key ++ w) (m ∷ r) (key ++ w)
+      → Str (backslash_of o) (noted_key_ends o) (escaped policy key ++ w) (m ∷ r) (key ++ w)
   bare_string w r m blank sep =
       let line = o.line_without_separator in
       Str.closed
-      (row_escaped key all (key_no_end line policy key bare.no_separator (value_no_end all))
-      (blank_row line w blank)) (separator_closes line m sep)
+      (row_escaped key all (key_no_end line policy key bare.no_separator (value_no_end all)) unnoted
+      (no_mark_in_blanks w blank) (blank_row o w blank)) (separator_closes line m sep)
 
   bare_key : (w : List ℕ) → list_all is_blank w ≡ true
       → cond o.enabled_preserve_key_leading_whitespace (end_trimmed (key ++ w)) (trimmed (key ++ w)) ≡ key
@@ -257,6 +260,12 @@ AllRead-after : {escapes : Backslash} {policy : EscapePolicy} {key : List ℕ} (
 AllRead-after [] all = all
 AllRead-after (c ∷ w) (AllRead.more one all) = AllRead-after w all
 
+bare_note-after : (policy : EscapePolicy) (w key : List ℕ) → has_bare_note policy (w ++ key) ≡ false
+    → has_bare_note policy key ≡ false
+bare_note-after policy [] key h = h
+bare_note-after policy (c ∷ w) key h =
+    bare_note-after policy w key (or_parts _ (has_bare_note policy (w ++ key)) h).1
+
 spaces_blank : (spaces : List ℕ) → list_all (λ c. eqb c space) spaces ≡ true
     → list_all is_blank spaces ≡ true
 spaces_blank [] h = refl
@@ -271,10 +280,12 @@ module _ {o : ParseOption} {policy : EscapePolicy} where
   spaced_front : {b key : List ℕ} (spaces w r : List ℕ) (m : ℕ) → is_column_one b ≡ true
       → o.enabled_preserve_key_leading_whitespace ≡ true
       → list_all (λ c. eqb c space) spaces ≡ true → IsBareKey o policy key
-      → AllRead (backslash_of o) policy key → list_all is_blank w ≡ true → is_separator m ≡ true
+      → AllRead (backslash_of o) policy key → NoBareNote policy (noted_key_ends o) key
+      → list_all is_blank w ≡ true → is_separator m ≡ true
       → KeyFront o b (spaces ++ (escaped policy key ++ w)) (m ∷ r) (spaces ++ key)
-  spaced_front [] w r m one kept all bare read blank sep = bare_front bare read w r m blank sep
-  spaced_front {b} {key} (c ∷ spaces) w r m one kept all bare read blank sep =
+  spaced_front [] w r m one kept all bare read unnoted blank sep =
+      bare_front bare read unnoted w r m blank sep
+  spaced_front {b} {key} (c ∷ spaces) w r m one kept all bare read unnoted blank sep =
       let blanks = spaces_blank (c ∷ spaces) all in
       let first = (and_parts (is_blank c) (list_all is_blank spaces) blanks).0 in
       let ind : Indentation b (c ∷ spaces) =
@@ -287,21 +298,23 @@ module _ {o : ParseOption} {policy : EscapePolicy} where
       cond-true o.enabled_preserve_key_leading_whitespace _ _ kept
       ∙ ap end_trimmed (sym (append_assoc (c ∷ spaces) key w))
       ∙ end_trimmed-blanks ((c ∷ spaces) ++ key) w blank
-      ∙ end_trimmed-after (c ∷ spaces) key bare.some (bare_end bare read) in
+      ∙ end_trimmed-after (c ∷ spaces) key bare.some (bare_end bare read unnoted) in
       subst (KeyFront o b ((c ∷ spaces) ++ (escaped policy key ++ w)) (m ∷ r)) key_is
-      (KeyFront.indented ind begins (bare_string bare read w r m blank sep))
+      (KeyFront.indented ind begins (bare_string bare read unnoted w r m blank sep))
 
   pub key_front : {b key : List ℕ} (w r : List ℕ) (m : ℕ) → is_column_one b ≡ true → IsPlainKey o policy key
-      → AllRead (backslash_of o) policy key
+      → AllRead (backslash_of o) policy key → NoBareNote policy (noted_key_ends o) key
       → list_all is_blank w ≡ true → is_separator m ≡ true
       → KeyFront o b (escaped policy key ++ w) (m ∷ r) key
-  key_front w r m one (IsPlainKey.bare bare) read blank sep = bare_front bare read w r m blank sep
-  key_front {b} w r m one (IsPlainKey.after_spaces {key} spaces kept off all bare) read blank sep =
+  key_front w r m one (IsPlainKey.bare bare) read unnoted blank sep =
+      bare_front bare read unnoted w r m blank sep
+  key_front {b} w r m one (IsPlainKey.after_spaces {key} spaces kept off all bare) read unnoted blank sep =
       let source : spaces ++ (escaped policy key ++ w) ≡ escaped policy (spaces ++ key) ++ w =
       sym (append_assoc spaces (escaped policy key) w)
       ∙ ap (λ x. x ++ w) (sym (escaped-spaces policy spaces key all)) in
       subst (λ s. KeyFront o b s (m ∷ r) (spaces ++ key)) source
-      (spaced_front spaces w r m one kept all bare (AllRead-after spaces read) blank sep)
+      (spaced_front spaces w r m one kept all bare (AllRead-after spaces read)
+      (λ on. bare_note-after policy spaces key (unnoted on)) blank sep)
 
   pub key_some : {key : List ℕ} → IsPlainKey o policy key → key ≢ []
   key_some (IsPlainKey.bare bare) = bare.some
@@ -340,9 +353,10 @@ module _ {o : ParseOption} {policy : EscapePolicy} {value : List ℕ} (plain : I
       let unquoted : BeginsPlain o (escaped policy value ++ l ∷ r) = λ on.
       value_begins (BeginsWithNo is_quote_mark) (λ y. refl) policy l r plain h (λ y. line_end_no_mark l h)
       (λ c y white mark. mark on) in
+      let closes : Closes plain_ends (l ∷ r) = line_end_closes l h in
       subst (Line o true (escaped policy value) (l ∷ r)) plain.is_trimmed
-      (Line.line Quoted.none unquoted
-      (Str.closed (row_of value all (value_no_end all)) (line_end_closes l h)))
+      (line_of_text closes (LineText.text Quoted.none unquoted
+      (Str.closed (row_of value all (value_no_end all) plain.no_note) closes)))
 
   pub value_lead : (w : List ℕ) (l : ℕ) (r : List ℕ) → list_all is_blank w ≡ true → is_line_end l ≡ true
       → Lead w (escaped policy value ++ l ∷ r)
@@ -411,7 +425,7 @@ module _ (o : ParseOption) (w : WriteOption) (twice : Bool) (b key value r : Lis
       let read_key = all_read {o = o} policy key plain.key_read_back in
       let front =
       key_front {b = b} sep.before ((sep.after ++ v) ++ rest) sep.separator one plain.plain_key read_key
-      sep.blank_before sep.separates in
+      plain.key_no_note sep.blank_before sep.separates in
       subst (λ x. Element o b x rest (Pair key value ∷ [])) (source-parts ek v sep)
       (Element.pair front (key_some plain.plain_key) sep.separates given)
 

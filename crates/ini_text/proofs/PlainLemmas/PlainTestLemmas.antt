@@ -9,7 +9,10 @@ use Rattle.std.specs.List.{list_all}
 use Rattle.std.specs.Str.{all_scalars}
 use Rattle.ini_text.specs.Grammar.CharacterKinds.{space, is_blank, is_comment_mark, is_quote_mark, is_separator, open_bracket, BeginsWith, BeginsWithNo}
 use Rattle.ini_text.specs.Laws.Plain.{HasNoEscapes, HasReadEscapes, IsBareKey, IsIndentedByEscape, IsPlainKey, IsPlainName, IsPlainPair, IsPlainSeparator, IsPlainValue, IsReadBack}
-use Rattle.ini_text.specs.Inside.PlainTests.{begins, escapes_nothing, has_no_close_bracket, has_no_escapes, has_read_escapes, is_bare_key, is_indented_by_escape, is_separator_and_blanks, is_plain_key, is_plain_name, is_plain_pair, is_plain_separator, is_plain_value, is_read_back, is_trimmed, may_begin_key, may_indent}
+use Rattle.ini_text.specs.Grammar.CharacterKinds.{begins}
+use Rattle.ini_text.specs.Grammar.Strings.{ends_with_line, noted_key_ends}
+use Rattle.ini_text.specs.Laws.Plain.{has_bare_note}
+use Rattle.ini_text.specs.Inside.PlainTests.{escapes_nothing, has_no_close_bracket, has_key_note, has_no_escapes, has_no_name_end, has_note, has_read_escapes, is_bare_key, is_indented_by_escape, is_separator_and_blanks, is_plain_key, is_plain_name, is_plain_pair, is_plain_separator, is_plain_value, is_read_back, is_trimmed, may_begin_key, may_indent}
 use Rattle.ini_text.specs.Escaping.Policies.{is_escaped}
 use Rattle.ini_text.specs.Inside.Scans.{run_of, skipped}
 use Rattle.ini_text.specs.Grammar.WhiteSpace.{trimmed, end_trimmed}
@@ -110,6 +113,11 @@ nothing_decides ReservedUnicode = (λ e. absurd (false≢true e), λ e. cc)
 nothing_decides ReservedUnicodeExtended = (λ e. absurd (false≢true e), λ e. cc)
 nothing_decides Everything = (λ e. absurd (false≢true e), λ e. cc)
 
+-- a test that fails where another one holds
+none_where : (a b : Bool) → Decides (not (a && b)) (a ≡ true → b ≡ false)
+none_where true b = let none = not_false b in (λ e on. none.0 e, λ h. none.1 (h refl))
+none_where false b = (λ e on. absurd (false≢true on), λ h. refl)
+
 module _ (o : ParseOption) (policy : EscapePolicy) where
   read_escapes_decides : (text : List ℕ)
       → Decides (has_read_escapes o policy text) (HasReadEscapes o policy text)
@@ -132,23 +140,36 @@ module _ (o : ParseOption) (policy : EscapePolicy) where
       Decides-like _ (λ e. record { of_characters = valid; is_read = e }) (λ r. r.is_read)
       (Decides-or _ _ (read_escapes_decides text) (no_escapes_decides text))
 
-  no_bracket_decides : (name : List ℕ)
-      → Decides (o.enabled_brackets_in_section_names || has_no_close_bracket name)
-      (o.enabled_brackets_in_section_names ≡ false → has_no_close_bracket name ≡ true)
-  no_bracket_decides name = at o.enabled_brackets_in_section_names
+  -- notes
+  no_note_decides : (text : List ℕ) → Decides (not (has_note o policy text))
+      (o.enabled_inline_comment ≡ true → has_bare_note policy text ≡ false)
+  no_note_decides text = none_where o.enabled_inline_comment (has_bare_note policy text)
+
+  -- what ends a name
+  name_end_decides : (name : List ℕ)
+      → Decides (has_no_name_end o policy name)
+      ((o.enabled_brackets_in_section_names ≡ false → has_no_close_bracket name ≡ true)
+      × (o.enabled_brackets_in_section_names ≡ true → o.enabled_inline_comment ≡ true
+      → has_bare_note policy name ≡ false))
+  name_end_decides name = at o.enabled_brackets_in_section_names
     where
-      at : (b : Bool)
-          → Decides (b || has_no_close_bracket name) (b ≡ false → has_no_close_bracket name ≡ true)
-      at true = (λ e off. absurd (false≢true (sym off)), λ f. refl)
-      at false = (λ e off. e, λ f. f refl)
+      at : (b : Bool) → Decides (cond b (not (has_note o policy name)) (has_no_close_bracket name))
+          ((b ≡ false → has_no_close_bracket name ≡ true)
+          × (b ≡ true → o.enabled_inline_comment ≡ true → has_bare_note policy name ≡ false))
+      at true = (
+        λ e. (λ off. absurd (false≢true (sym off)), λ on. (no_note_decides name).0 e),
+        λ h. (no_note_decides name).1 (h.1 refl),
+      )
+      at false = (λ e. (λ off. e, λ on. absurd (false≢true on)), λ h. h.0 refl)
 
   pub name_decides : (name : List ℕ) → all_scalars name ≡ true
       → Decides (is_plain_name o policy name) (IsPlainName o policy name)
   name_decides name valid =
-      Decides-like _ (λ e. record { is_trimmed = e.0; no_bracket = e.1.0; read_back = e.1.1 })
-      (λ n. (n.is_trimmed, (n.no_bracket, n.read_back)))
+      Decides-like _
+      (λ e. record { is_trimmed = e.0; no_bracket = e.1.0.0; no_note = e.1.0.1; read_back = e.1.1 })
+      (λ n. (n.is_trimmed, ((n.no_bracket, n.no_note), n.read_back)))
       (Decides-and _ _ (trimmed_decides name)
-      (Decides-and _ _ (no_bracket_decides name) (read_back_decides name valid)))
+      (Decides-and _ _ (name_end_decides name) (read_back_decides name valid)))
 
   -- values
   no_mark_decides : (value : List ℕ)
@@ -164,10 +185,12 @@ module _ (o : ParseOption) (policy : EscapePolicy) where
   pub value_decides : (value : List ℕ) → all_scalars value ≡ true
       → Decides (is_plain_value o policy value) (IsPlainValue o policy value)
   value_decides value valid =
-      Decides-like _ (λ e. record { is_trimmed = e.0; no_quote_mark = e.1.0; read_back = e.1.1 })
-      (λ v. (v.is_trimmed, (v.no_quote_mark, v.read_back)))
+      Decides-like _
+      (λ e. record { is_trimmed = e.0; no_quote_mark = e.1.0; no_note = e.1.1.0; read_back = e.1.1.1 })
+      (λ v. (v.is_trimmed, (v.no_quote_mark, (v.no_note, v.read_back))))
       (Decides-and _ _ (trimmed_decides value)
-      (Decides-and _ _ (no_mark_decides value) (read_back_decides value valid)))
+      (Decides-and _ _ (no_mark_decides value)
+      (Decides-and _ _ (no_note_decides value) (read_back_decides value valid))))
 
   -- keys
   indented_decides : (key : List ℕ)
@@ -259,10 +282,23 @@ module _ (o : ParseOption) (policy : EscapePolicy) where
   key_decides : (key : List ℕ) → Decides (is_plain_key o policy key) (IsPlainKey o policy key)
   key_decides key = (key_found key, key_tested)
 
+  key_no_note_decides : (key : List ℕ)
+      → Decides (not (has_key_note o policy key))
+      ((noted_key_ends o).notes ≡ true → has_bare_note policy key ≡ false)
+  key_no_note_decides key =
+      at (ends_with_line o.line_without_separator) o.enabled_inline_comment (has_bare_note policy key)
+    where
+      at : (a b c : Bool) → Decides (not (a && (b && c))) ((a && b) ≡ true → c ≡ false)
+      at true b c = none_where b c
+      at false b c = (λ e on. absurd (false≢true on), λ h. refl)
+
   pub pair_decides : (key value : List ℕ) → all_scalars key ≡ true → all_scalars value ≡ true
       → Decides (is_plain_pair o policy key value) (IsPlainPair o policy key value)
   pair_decides key value key_valid value_valid =
-      Decides-like _ (λ e. record { plain_key = e.0; key_read_back = e.1.0; plain_value = e.1.1 })
-      (λ p. (p.plain_key, (p.key_read_back, p.plain_value)))
+      Decides-like _
+      (λ e.
+      record { plain_key = e.0; key_no_note = e.1.0; key_read_back = e.1.1.0; plain_value = e.1.1.1 })
+      (λ p. (p.plain_key, (p.key_no_note, (p.key_read_back, p.plain_value))))
       (Decides-and _ _ (key_decides key)
-      (Decides-and _ _ (read_back_decides key key_valid) (value_decides value value_valid)))
+      (Decides-and _ _ (key_no_note_decides key)
+      (Decides-and _ _ (read_back_decides key key_valid) (value_decides value value_valid))))

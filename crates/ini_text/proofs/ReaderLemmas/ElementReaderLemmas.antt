@@ -7,24 +7,22 @@ use Rattle.std.specs.Char.{is_whitespace}
 use Rattle.std.specs.List.{list_all}
 use Rattle.ini_text.specs.Options.ReadOptions.{backslash_of}
 use Rattle.ini_text.specs.declared.option.LoneLine.{LoneLine}
-use Rattle.ini_text.specs.declared.option.LoneLine.TheVariants.{RunsOn, Refused}
+use Rattle.ini_text.specs.declared.option.LoneLine.TheVariants.{RunsOn, Refused, Key}
 use Rattle.ini_text.specs.declared.option.ParseOption.{ParseOption}
-use Rattle.ini_text.specs.declared.parser.fault.Stop.TheVariants as stops
-use Rattle.ini_text.specs.declared.parser.endpoints.Endpoints.TheVariants as endpoints
 use Rattle.ini_text.specs.declared.error.ParseKind.{ParseKind}
 use Rattle.ini_text.specs.declared.error.ParseKind.TheVariants.{EndOfText, InlineComment}
 use Rattle.ini_text.specs.Grammar.CharacterKinds.{line_feed, open_bracket, close_bracket, is_line_end, is_blank, is_separator, is_comment_mark, BeginsWith, BeginsWithNo}
 use Rattle.ini_text.specs.Grammar.Positions.{starts_line, is_column_one}
-use Rattle.ini_text.specs.Grammar.Strings.{is_endpoint, Str, StrStops, name_ends, bracketed_name_ends, key_ends}
+use Rattle.ini_text.specs.Grammar.Strings.{Ends, Str, StrStops, ends_with_line, name_ends, bracketed_name_ends, key_ends, noted, noted_key_ends}
 use Rattle.ini_text.specs.Grammar.Values.{Value, ValueStops}
 use Rattle.ini_text.specs.Grammar.Keys.{Indentation, begins_key, begins_indented_key, begins_note, KeyFront}
 use Rattle.ini_text.specs.Grammar.Lines.{Note}
-use Rattle.ini_text.specs.Grammar.Elements.{Given, Gap, Element, ElementStops}
-use Rattle.ini_text.specs.Inside.ElementReader.{after_key, after_mark, key_string, name_in, header, header_of_name, bracketed_header, after_bracket, pair_of_value, after_separator, trimmed_key, pair_of_key, unindented_pair, dropped_tail, indented_pair_of_key, kept_blanks, indented_pair, after_blanks, is_comment_part, element}
+use Rattle.ini_text.specs.Grammar.Elements.{Given, Gap, Element, ElementStops, ends_part, may_have_note}
+use Rattle.ini_text.specs.Inside.ElementReader.{after_key, after_mark, key_string, lone_key, name_in, header, header_of_name, bracketed_header, after_bracket, pair_of_value, after_separator, trimmed_key, pair_of_key, unindented_pair, dropped_tail, indented_pair_of_key, kept_blanks, indented_pair, after_blanks, is_comment_part, element}
 use Rattle.ini_text.specs.Inside.Reading.{Answer, found, stopped, prepend, altered_answer}
-use Rattle.ini_text.specs.Inside.Scans.{run_of, skipped, trimmed_at}
+use Rattle.ini_text.specs.Inside.Scans.{is_line_part, run_of, skipped, trimmed_at}
 use Rattle.ini_text.specs.Inside.StringReader.{string}
-use Rattle.ini_text.specs.Inside.ValueReader.{is_line_part, value}
+use Rattle.ini_text.specs.Inside.ValueReader.{value}
 use Rattle.ini_text.specs.Parsing.Fronts.{front_of, IsRest}
 use Rattle.ini_text.proofs.GrammarLemmas.BracketedNameLemmas.{finds_name, name_found, no_name, none_found}
 use Rattle.ini_text.proofs.GrammarLemmas.KindLemmas.{no_white_no_blank, line_end_no_blank, comment_mark-apart, comment_mark-in_line}
@@ -34,7 +32,7 @@ use Rattle.ini_text.proofs.ReaderLemmas.RunReaderLemmas.{run-finds, run-sound}
 use Rattle.ini_text.proofs.ReaderLemmas.StringReaderLemmas.{StringSays, string-reads}
 use Rattle.ini_text.proofs.ReaderLemmas.ValueReaderLemmas.{value-reads}
 use Rattle.ini_text.proofs.StringLemmas.FrontLemmas.{front_is}
-use Rattle.ini_text.proofs.ReaderLemmas.KeyReaderLemmas.{endpoint_follows, indented_value, key_apart, key_end_separates, key_string-reads, key_value, no_key_at_end, not_dropped, separator_no_line_end, stopped_at_end, value_after}
+use Rattle.ini_text.proofs.ReaderLemmas.KeyReaderLemmas.{MayFollow, alone_after, endpoint_follows, indented_value, key_apart, key_at_end, key_ends_line, KeyFront-ends, key_string-reads, key_value, not_dropped, part_no_separator, separated, some_lone_key, stopped_at_end, value_after}
 
 module _ (o : ParseOption) (b : List ℕ) where
   no_line_start : (c : ℕ) → (is_blank c ≡ true → starts_line b ≡ false)
@@ -52,18 +50,22 @@ module _ (o : ParseOption) (b : List ℕ) where
       (string (backslash_of o) name_ends)
   name-reads = string-reads (backslash_of o) name_ends refl
 
-  key-reads : IsReader (Str (backslash_of o) (key_ends o.line_without_separator))
-      (StrStops (backslash_of o) (key_ends o.line_without_separator)) (key_string o)
+  key-reads : IsReader (Str (backslash_of o) (noted_key_ends o))
+      (StrStops (backslash_of o) (noted_key_ends o)) (key_string o)
   key-reads = key_string-reads o
 
-  line-reads : IsReader (Str (backslash_of o) bracketed_name_ends)
-      (StrStops (backslash_of o) bracketed_name_ends) (string (backslash_of o) bracketed_name_ends)
-  line-reads = string-reads (backslash_of o) bracketed_name_ends refl
+  abbrev header_ends : Ends
+  header_ends = noted o bracketed_name_ends
+
+  line-reads : IsReader (Str (backslash_of o) header_ends)
+      (StrStops (backslash_of o) header_ends) (string (backslash_of o) header_ends)
+  line-reads = string-reads (backslash_of o) header_ends refl
 
   name-bracket : {s r v : List ℕ} → Str (backslash_of o) name_ends s r v
       → (x : List ℕ) × (r ≡ close_bracket ∷ x)
   name-bracket {r = []} (Str.closed k h) = cc
   name-bracket {r = m ∷ x} (Str.closed k h) = (x, ap (λ y. y ∷ x) (eqb-true m 93 (rw or-false at h)))
+  name-bracket (Str.before_note c k begins other before) = cc
   name-bracket (Str.lone sp k h) = cc
 
   after_separator-sound : {k r : List ℕ} {m : ℕ} (key : List ℕ) → KeyFront o b k (m ∷ r) key
@@ -82,30 +84,50 @@ module _ (o : ParseOption) (b : List ℕ) where
           let before = subst (λ y. KeyFront o b k (m ∷ y) (c ∷ key)) (sym h) front in
           (k ++ m ∷ s, ElementStops.in_value before (λ q. cc) sep stops, simp (append_assoc, h))
 
-  after_key-sound : {k r : List ℕ} {m : ℕ} (key : List ℕ) → KeyFront o b k (m ∷ r) key
-      → is_endpoint (key_ends o.line_without_separator) m ≡ true
-      → ElementSays (k ++ m ∷ r) (after_key o key (m ∷ r))
-  after_key-sound {k} {r} {m} key front ends = elim (cases_Bool (is_line_end m)) [
-    | inl end ↦ rw end (k ++ m ∷ [], ElementStops.no_separator front end, append_assoc k (m ∷ []) r)
-    | inr other ↦ rw other
-        (after_separator-sound key front (key_end_separates o.line_without_separator m ends other))
+  -- a key alone before what ends its line, or at the text's end
+  lone_key-sound : {k r : List ℕ} {m : ℕ} (line : LoneLine) → o.line_without_separator ≡ line
+      → ends_with_line line ≡ true → (key : List ℕ) → KeyFront o b k (m ∷ r) key → ends_part m ≡ true
+      → ElementSays (k ++ m ∷ r) (lone_key line key (m ∷ r))
+  lone_key-sound RunsOn runs with_line key front end = let z : false ≡ true = with_line in cc
+  lone_key-sound {k} {r} {m} Refused refuses with_line key front end =
+      (k ++ m ∷ [], ElementStops.no_separator refuses front end, append_assoc k (m ∷ []) r)
+  lone_key-sound {k} {r} {m} Key alone with_line [] front end =
+      (k ++ m ∷ [], ElementStops.no_lone_key alone front end, append_assoc k (m ∷ []) r)
+  lone_key-sound {k} {m = m} Key alone with_line (c ∷ key) front end =
+      (k, Element.lone_key alone front (λ q. cc) (part_no_separator m end), refl)
+
+  last_key-sound : {k : List ℕ} → o.line_without_separator ≡ Key → (key : List ℕ) → KeyFront o b k [] key
+      → ElementSays (k ++ []) (lone_key Key key [])
+  last_key-sound {k} alone [] front = (k, ElementStops.no_last_key alone front, refl)
+  last_key-sound {k} alone (c ∷ key) front = (k, Element.lone_key alone front (λ q. cc) tt, refl)
+
+  after_key-sound : {k r : List ℕ} (key : List ℕ) → KeyFront o b k r key → MayFollow (noted_key_ends o) r
+      → ElementSays (k ++ r) (after_key o key r)
+  after_key-sound {k} {r = []} key front follows =
+      let alone = key_at_end o follows in
+      subst (λ line. ElementSays (k ++ []) (lone_key line key [])) (sym alone)
+      (last_key-sound alone key front)
+  after_key-sound {k} {r = m ∷ r} key front follows = elim (cases_Bool (is_separator m)) [
+    | inl sep ↦
+        subst (ElementSays (k ++ m ∷ r)) (sym (separated o key {c = m} refl sep))
+        (after_separator-sound key front sep)
+    | inr none ↦
+        let ends = key_ends_line o m r follows none in
+        subst (ElementSays (k ++ m ∷ r)) (sym (alone_after o key (m ∷ r) none))
+        (lone_key-sound o.line_without_separator refl ends.0 key front ends.1)
   ]
 
   pair_of_key-sound : (w : List ℕ) {s r v t : List ℕ} (key : List ℕ)
-      → ((x : List ℕ) → s ++ x ≡ t → Str (backslash_of o) (key_ends o.line_without_separator) s x v
+      → ((x : List ℕ) → s ++ x ≡ t → Str (backslash_of o) (noted_key_ends o) s x v
       → KeyFront o b (w ++ s) x key)
-      → Str (backslash_of o) (key_ends o.line_without_separator) s r v → s ++ r ≡ t
+      → Str (backslash_of o) (noted_key_ends o) s r v → s ++ r ≡ t
       → ElementSays (w ++ t) (after_key o key r)
-  pair_of_key-sound w {s} {r} {v} {t} key front str h =
-      let x = endpoint_follows str (no_key_at_end o.line_without_separator) in
-      let whole : s ++ x.0 ∷ x.1 ≡ t = ap (λ y. s ++ y) (sym x.2) ∙ h in
-      rw x.2 (subst (λ y. ElementSays y (after_key o key (x.0 ∷ x.1)))
-      (append_assoc w s (x.0 ∷ x.1) ∙ ap (λ y. w ++ y) whole)
-      (after_key-sound key (front (x.0 ∷ x.1) whole
-      (subst (λ y. Str (backslash_of o) (key_ends o.line_without_separator) s y v) x.2 str)) x.3))
+  pair_of_key-sound w {s} {r} key front str h =
+      subst (λ y. ElementSays y (after_key o key r)) (append_assoc w s r ∙ ap (λ y. w ++ y) h)
+      (after_key-sound key (front r h str) (KeyFront-ends (front r h str)))
 
   unindented_pair-sound : (t : List ℕ) → BeginsWith begins_key t → (a : Answer ℕ)
-      → StringSays (backslash_of o) (key_ends o.line_without_separator) t a
+      → StringSays (backslash_of o) (noted_key_ends o) t a
       → ElementSays t (pair_of_key o (trimmed_key o a))
   unindented_pair-sound t begins (found v r) (s, str, h) =
       subst (λ k. ElementSays t (after_key o k r))
@@ -116,9 +138,19 @@ module _ (o : ParseOption) (b : List ℕ) where
   unindented_pair-sound t begins (stopped r k) (s, stops, h) =
       (s, ElementStops.in_key (subst (BeginsWith begins_key) (sym h) begins) stops, h)
 
+  -- where a key ends, by what becomes of a line in which no separator follows it
+  abbrev ends_by : LoneLine → Ends
+  ends_by line =
+      let ends = key_ends line in
+      record {
+        characters = ends.characters;
+        text = ends.text;
+        notes = ends_with_line line && o.enabled_inline_comment;
+      }
+
   indented_pair-sound : (w t : List ℕ) → Indentation b w → BeginsWith (begins_indented_key o) t
       → (a : Answer ℕ)
-      → StringSays (backslash_of o) (key_ends o.line_without_separator) t a
+      → StringSays (backslash_of o) (noted_key_ends o) t a
       → ElementSays (w ++ t) (indented_pair_of_key o (trimmed_key o (prepend (kept_blanks o w) a)))
   indented_pair-sound w t ind begins (found v r) (s, str, h) =
       subst (λ k. ElementSays (w ++ t) (after_key o k r))
@@ -134,21 +166,22 @@ module _ (o : ParseOption) (b : List ℕ) where
       text : BeginsWith (begins_indented_key o) (s ++ r)
       text = subst (BeginsWith (begins_indented_key o)) (sym h) begins
 
-      refused : (k : ParseKind) → StrStops (backslash_of o) (key_ends o.line_without_separator) s r k
+      refused : (k : ParseKind) → StrStops (backslash_of o) (noted_key_ends o) s r k
           → (o.line_without_separator ≡ RunsOn → k ≢ EndOfText) → ElementSays (w ++ t) (stopped r k)
       refused k stops other = (w ++ s, ElementStops.in_indented_key ind text stops other, whole)
 
       by : (line : LoneLine) → o.line_without_separator ≡ line → (k : ParseKind)
-          → StrStops (backslash_of o) (key_ends o.line_without_separator) s r k
+          → StrStops (backslash_of o) (noted_key_ends o) s r k
           → ElementSays (w ++ t) (dropped_tail line r k)
       by RunsOn runs EndOfText stops =
           let none : r ≡ [] = stopped_at_end stops refl in
           let key = Element.dropped_key runs ind (rw (none, append-nil s) at text)
-          (subst₂ (λ l y. StrStops (backslash_of o) (key_ends l) s y EndOfText) runs none stops) in
+          (subst₂ (λ l y. StrStops (backslash_of o) (ends_by l) s y EndOfText) runs none stops) in
           (w ++ s, subst (λ y. Element o b (w ++ s) y []) (sym none) key, whole)
       by RunsOn runs k stops = refused k stops (λ _ q. cc)
       by Refused refuses k stops =
           refused k stops (λ runs. let z : RunsOn ≡ Refused = sym runs ∙ refuses in cc)
+      by Key alone k stops = refused k stops (λ runs. let z : RunsOn ≡ Key = sym runs ∙ alone in cc)
 
   note-sound : (w : List ℕ) (c : ℕ) (cs : List ℕ) → Indentation b w → begins_note o c ≡ true
       → ElementSays (w ++ c ∷ cs) (found [] (skipped is_line_part cs))
@@ -191,21 +224,21 @@ module _ (o : ParseOption) (b : List ℕ) where
       )
 
   header_of_name-sound : {s r v t : List ℕ} → o.enabled_brackets_in_section_names ≡ true
-      → Str (backslash_of o) bracketed_name_ends s r v → s ++ r ≡ t → (name : Option (List ℕ))
+      → Str (backslash_of o) header_ends s r v → s ++ r ≡ t → (name : Option (List ℕ))
       → name_in v ≡ name → ElementSays (open_bracket ∷ t) (header_of_name name r)
   header_of_name-sound {s} {r} {v} on str h (Some name) e =
       (open_bracket ∷ s, Element.bracketed_header on str (name_found v name e), ap (λ y. open_bracket ∷ y) h)
   header_of_name-sound {s} {r} {v} on str h None e =
-      let (c, x, is, ends) = endpoint_follows str refl in
+      let (c, x, is, follows) = endpoint_follows str refl in
       rw is (
         open_bracket ∷ (s ++ c ∷ []),
-        ElementStops.no_header_end on (subst (λ y. Str (backslash_of o) bracketed_name_ends s y v) is str)
+        ElementStops.no_header_end on (subst (λ y. Str (backslash_of o) header_ends s y v) is str)
             (no_name v e),
         ap (λ y. open_bracket ∷ y) (append_assoc s (c ∷ []) x ∙ ap (λ y. s ++ y) (sym is) ∙ h),
       )
 
   bracketed_header-sound : o.enabled_brackets_in_section_names ≡ true → (t : List ℕ) (a : Answer ℕ)
-      → StringSays (backslash_of o) bracketed_name_ends t a
+      → StringSays (backslash_of o) header_ends t a
       → ElementSays (open_bracket ∷ t) (bracketed_header a)
   bracketed_header-sound on t (stopped r k) (s, stops, h) =
       (open_bracket ∷ s, ElementStops.in_bracketed_header on stops, ap (λ y. open_bracket ∷ y) h)
@@ -215,7 +248,7 @@ module _ (o : ParseOption) (b : List ℕ) where
   after_bracket-sound cs = elim (cases_Bool o.enabled_brackets_in_section_names) [
     | inl on ↦
         subst (ElementSays (open_bracket ∷ cs)) (sym (cond-true o.enabled_brackets_in_section_names _ _ on))
-        (bracketed_header-sound on cs (string (backslash_of o) bracketed_name_ends cs) (line-reads.sound cs))
+        (bracketed_header-sound on cs (string (backslash_of o) header_ends cs) (line-reads.sound cs))
     | inr off ↦
         subst (ElementSays (open_bracket ∷ cs))
         (sym (cond-false o.enabled_brackets_in_section_names _ _ off))
@@ -240,13 +273,11 @@ module _ (o : ParseOption) (b : List ℕ) where
       → after_mark o b cs ≡ found [] (drop 1 (skipped is_comment_part cs))
   comment_there cs one = cond-true (is_column_one b) _ _ one
 
-  note_there : (cs : List ℕ) → is_column_one b ≡ false
-      → (o.enabled_indented_comment && starts_line b) ≡ true
+  note_there : (cs : List ℕ) → is_column_one b ≡ false → may_have_note o b ≡ true
       → after_mark o b cs ≡ found [] (skipped is_line_part cs)
   note_there cs late h = cond-false (is_column_one b) _ _ late ∙ cond-true _ _ _ h
 
-  none_there : (cs : List ℕ) → is_column_one b ≡ false
-      → (o.enabled_indented_comment && starts_line b) ≡ false
+  none_there : (cs : List ℕ) → is_column_one b ≡ false → may_have_note o b ≡ false
       → after_mark o b cs ≡ stopped cs InlineComment
   none_there cs late h = cond-false (is_column_one b) _ _ late ∙ cond-false _ _ _ h
 
@@ -259,17 +290,16 @@ module _ (o : ParseOption) (b : List ℕ) where
         subst (ElementSays (c ∷ cs)) (sym (comment_there cs one))
         (subst (λ y. ElementSays (c ∷ y) (found [] (drop 1 rest))) split.whole
         (comment-sound c (run_of is_comment_part cs) rest one mark split.all split.ends))
-    | inr late ↦ elim (cases_Bool (o.enabled_indented_comment && starts_line b)) [
-      | inl h ↦
-          let two = and_parts o.enabled_indented_comment (starts_line b) h in
-          subst (ElementSays (c ∷ cs)) (sym (note_there cs late h)) (
+    | inr late ↦ elim (cases_Bool (may_have_note o b)) [
+      | inl may ↦
+          subst (ElementSays (c ∷ cs)) (sym (note_there cs late may)) (
             c ∷ run_of is_line_part cs,
-            Element.comment_after_cr two.0 two.1 late (note_at c cs mark),
+            Element.note may late (note_at c cs mark),
             ap (λ y. c ∷ y) (run-sound is_line_part cs).whole,
           )
-      | inr n ↦
-          subst (ElementSays (c ∷ cs)) (sym (none_there cs late n))
-          (c ∷ [], ElementStops.late_comment mark late (λ on. rw on at n), refl)
+      | inr none ↦
+          subst (ElementSays (c ∷ cs)) (sym (none_there cs late none))
+          (c ∷ [], ElementStops.late_comment mark late none, refl)
     ]
   ]
 
@@ -328,18 +358,22 @@ module _ (o : ParseOption) (b : List ℕ) where
       let y = or_parts (is_whitespace c) (is_comment_mark c) x.0 in
       rw (no_white_no_blank c y.0, y.0, y.1, x.1)
 
-  element-ended_key : {k x key : List ℕ} {m : ℕ} → KeyFront o b k (m ∷ x) key
-      → element o b (k ++ m ∷ x) ≡ after_key o key (m ∷ x)
-  element-ended_key {x = x} {m = m} (KeyFront.unindented {s} {v = v} begins str) =
-      rw (element-unindented_pair (s ++ m ∷ x) begins, key-reads.finds str)
-      (ap (λ k. after_key o k (m ∷ x)) (key_value o.enabled_preserve_key_leading_whitespace v))
-  element-ended_key {x = x} {m = m} (KeyFront.indented {w} {s} {v = v} ind begins str) =
-      rw (append_assoc w s (m ∷ x), element-indented_pair (s ++ m ∷ x) ind begins, key-reads.finds str)
-      (ap (λ k. after_key o k (m ∷ x)) (indented_value o.enabled_preserve_key_leading_whitespace w v))
+  element-ended_key : {k x key : List ℕ} → KeyFront o b k x key → element o b (k ++ x) ≡ after_key o key x
+  element-ended_key {x = x} (KeyFront.unindented {s} {v = v} begins str) =
+      rw (element-unindented_pair (s ++ x) begins, key-reads.finds str)
+      (ap (λ k. after_key o k x) (key_value o.enabled_preserve_key_leading_whitespace v))
+  element-ended_key {x = x} (KeyFront.indented {w} {s} {v = v} ind begins str) =
+      rw (append_assoc w s x, element-indented_pair (s ++ x) ind begins, key-reads.finds str)
+      (ap (λ k. after_key o k x) (indented_value o.enabled_preserve_key_leading_whitespace w v))
 
   element-key : {k x key : List ℕ} {m : ℕ} → KeyFront o b k (m ∷ x) key → is_separator m ≡ true
       → element o b (k ++ m ∷ x) ≡ after_separator o key x
-  element-key {m = m} front sep = element-ended_key front ∙ rw (separator_no_line_end m sep) refl
+  element-key {key = key} {m} front sep = element-ended_key front ∙ separated o key {c = m} refl sep
+
+  -- a key that no separator follows
+  element-lone_key : {k r key : List ℕ} → KeyFront o b k r key → BeginsWithNo is_separator r
+      → element o b (k ++ r) ≡ lone_key o.line_without_separator key r
+  element-lone_key {r = r} {key} front next = element-ended_key front ∙ alone_after o key r next
 
   element-gap : {s r : List ℕ} → Gap b s r → element o b (s ++ r) ≡ found [] r
   unfolding element
@@ -376,12 +410,12 @@ module _ (o : ParseOption) (b : List ℕ) where
         note_read {m = m} {s = s} {r = r} (Note.note mark all closes),
       )
 
-  element-comment_after_cr : {s r : List ℕ} → o.enabled_indented_comment ≡ true → starts_line b ≡ true
-      → is_column_one b ≡ false → Note s r → element o b (s ++ r) ≡ found [] r
+  element-note : {s r : List ℕ} → may_have_note o b ≡ true → is_column_one b ≡ false → Note s r
+      → element o b (s ++ r) ≡ found [] r
   unfolding element
-  element-comment_after_cr {r = r} on start late (Note.note {m} {s} mark all closes) =
+  element-note {r = r} may late (Note.note {m} {s} mark all closes) =
       let apart = comment_mark-apart m mark in
-      rw (apart.0, apart.1, mark) (note_there (s ++ r) late (rw (on, start) refl)
+      rw (apart.0, apart.1, mark) (note_there (s ++ r) late may
       ∙ ap (found []) (note_read {m = m} {s = s} {r = r} (Note.note mark all closes)))
 
   pub element-finds : {s r : List ℕ} {gives : List Given} → Element o b s r gives
@@ -391,8 +425,8 @@ module _ (o : ParseOption) (b : List ℕ) where
   element-finds {r = r} (Element.comment {m} s one mark all) =
       rw (append_assoc s (line_feed ∷ []) r) (element-comment m s (line_feed ∷ r) one mark all refl)
   element-finds (Element.last_comment {m} {s} one mark all) = element-comment m s [] one mark all tt
-  element-finds (Element.indented_comment on ind noted) = element-indented_comment on ind noted
-  element-finds (Element.comment_after_cr on start late noted) = element-comment_after_cr on start late noted
+  element-finds (Element.indented_comment on ind is_note) = element-indented_comment on ind is_note
+  element-finds (Element.note may late is_note) = element-note may late is_note
   element-finds {r = r} (Element.header {s} off str) =
       rw (off, append_assoc s (close_bracket ∷ []) r, name-reads.finds str)
   element-finds (Element.bracketed_header on str i) = rw (on, line-reads.finds str, finds_name i)
@@ -403,9 +437,11 @@ module _ (o : ParseOption) (b : List ℕ) where
         value_after o key (s ++ r) some,
         (value-reads o).finds given,
       )
+  element-finds {r = r} (Element.lone_key {key = key} alone front some next) =
+      element-lone_key front next ∙ ap (λ line. lone_key line key r) alone ∙ some_lone_key key r some
   element-finds (Element.dropped_blanks ind) = element-blanks [] ind tt
   element-finds (Element.dropped_key {w} {s} runs ind begins stops) =
-      let here = subst (λ l. StrStops (backslash_of o) (key_ends l) s [] EndOfText) (sym runs) stops in
+      let here = subst (λ l. StrStops (backslash_of o) (ends_by l) s [] EndOfText) (sym runs) stops in
       let reads : key_string o s ≡ stopped [] EndOfText = rw (append-nil s) at (key-reads.stops here) in
       rw (append-nil (w ++ s), element-indented_pair s ind begins, reads)
       (ap (λ l. dropped_tail l [] EndOfText) runs)
@@ -424,8 +460,12 @@ module _ (o : ParseOption) (b : List ℕ) where
       (not_dropped o.line_without_separator r k n)
   element-stops {r = r} (ElementStops.no_key {k} {m = m} front sep) =
       rw (append_assoc k (m ∷ []) r) (element-key front sep)
-  element-stops {r = r} (ElementStops.no_separator {k} {c = c} front end) =
-      rw (append_assoc k (c ∷ []) r) (element-ended_key front ∙ rw end refl)
+  element-stops {r = r} (ElementStops.no_lone_key {k} {c = c} alone front end) =
+      rw (append_assoc k (c ∷ []) r) (element-lone_key front (part_no_separator c end) ∙ rw alone refl)
+  element-stops (ElementStops.no_last_key alone front) = element-lone_key front tt ∙ rw alone refl
+  element-stops {r = r} (ElementStops.no_separator {k} {key = key} {c} refuses front end) =
+      rw (append_assoc k (c ∷ []) r) (element-lone_key front (part_no_separator c end)
+      ∙ ap (λ line. lone_key line key (c ∷ r)) refuses)
   element-stops {r = r} (ElementStops.in_value {k} {s} {key = key} {m = m} front some sep stops) =
       rw (
         append_assoc k (m ∷ s) r,
@@ -433,10 +473,8 @@ module _ (o : ParseOption) (b : List ℕ) where
         value_after o key (s ++ r) some,
         (value-reads o).stops stops,
       )
-  element-stops (ElementStops.late_comment {m} mark late within) =
+  element-stops (ElementStops.late_comment {m} mark late none) =
       let apart = comment_mark-apart m mark in
-      let none : (o.enabled_indented_comment && starts_line b) ≡ false =
-      elim (cases_Bool o.enabled_indented_comment) [ inl on ↦ rw (on, within on) refl | inr off ↦ rw off refl ] in
       rw (apart.0, apart.1, mark) (none_there _ late none)
 
   -- what the reader answers at a text that isn't at its end

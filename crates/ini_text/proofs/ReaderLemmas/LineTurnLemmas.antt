@@ -2,15 +2,14 @@
 use Rattle.std.proofs.Common.{◌≡◌, ◌≢◌, ℕ, ◌<◌, true, false, List, [], ◌∷◌, ◌++◌, length, Some, None, inl, inr, refl, sym, ap, ◌∙◌, subst, append_assoc, ne_eqb}
 use Rattle.std.proofs.lemmas.Bool.{cases_Bool, cond-true}
 use Rattle.ini_text.specs.declared.error.ParseKind.{ParseKind}
-use Rattle.ini_text.specs.Grammar.CharacterKinds.{line_feed, carriage_return, is_blank, is_inline_white, BeginsWithNo, is_comment_mark}
+use Rattle.ini_text.specs.Grammar.CharacterKinds.{line_feed, carriage_return, begins, is_blank, is_inline_white, BeginsWithNo, is_comment_mark}
 use Rattle.ini_text.specs.Grammar.WhiteSpace.{Lead, without_outer_line_feeds}
 use Rattle.ini_text.specs.Grammar.Keys.{begins_note}
 use Rattle.ini_text.specs.Grammar.Values.{CommentLine, MoreLines, MoreLinesStop}
 use Rattle.ini_text.specs.Inside.LineReader.{line}
 use Rattle.ini_text.specs.Inside.Reading.{found, stopped, prepend, altered_answer, more, ends, go_on}
-use Rattle.ini_text.specs.Inside.Scans.{run_of, skipped}
-use Rattle.ini_text.specs.Inside.PlainTests.{begins}
-use Rattle.ini_text.specs.Inside.ValueReader.{after_end, comment_end, empty_cr, before_end, is_line_part, row, more_lines, multiline_value, value}
+use Rattle.ini_text.specs.Inside.Scans.{is_line_part, run_of, skipped}
+use Rattle.ini_text.specs.Inside.ValueReader.{after_end, comment_end, empty_cr, before_end, row, more_lines, multiline_value, value}
 use Rattle.ini_text.proofs.GrammarLemmas.KindLemmas.{blank_inline}
 use Rattle.ini_text.proofs.ReaderLemmas.ReaderLemmas.{and_more, and_found, read_after, stopped_after, shortens}
 use Rattle.ini_text.proofs.ReaderLemmas.NoteLemmas.{other_text}
@@ -25,7 +24,8 @@ module _ (o : ParseOption) where
 
   pub no_more_lines : {t cs : List ℕ} {c : ℕ} → t ≡ c ∷ cs → c ≢ line_feed → c ≢ carriage_return
       → is_blank c ≡ false → more_lines o t ≡ found [] t
-  no_more_lines {cs = cs} {c} is n m b = rw is ((lines-turn o) (c ∷ cs) ∙ rw (ne_eqb c 10 n, ne_eqb c 13 m, b))
+  no_more_lines {cs = cs} {c} is n m b =
+      rw is ((lines-turn o) (c ∷ cs) ∙ rw (ne_eqb c 10 n, ne_eqb c 13 m, b))
 
   pub empty_line : {t cs : List ℕ} {c : ℕ} → t ≡ c ∷ cs → c ≡ line_feed
       → more_lines o t ≡ prepend (line_feed ∷ []) (more_lines o cs)

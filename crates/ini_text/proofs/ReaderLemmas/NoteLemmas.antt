@@ -1,14 +1,12 @@
 -- Notes at the front of a text.
-use Rattle.std.proofs.Common.{◌≡◌, ◌&&◌, ℕ, Bool, true, false, not, List, [], ◌∷◌, ◌++◌, ap, inl, inr, refl}
+use Rattle.std.proofs.Common.{◌≡◌, ℕ, true, false, List, [], ◌∷◌, ◌++◌, ap, inl, inr, refl}
 use Rattle.std.proofs.Math.Bool.{or-false}
-use Rattle.std.proofs.lemmas.Bool.{cases_Bool, and_parts, not-false, not-true}
-use Rattle.ini_text.specs.Grammar.CharacterKinds.{is_comment_mark, is_line_end, BeginsWithNo}
+use Rattle.std.proofs.lemmas.Bool.{cases_Bool, and_parts, not-false}
+use Rattle.ini_text.specs.Grammar.CharacterKinds.{begins, is_comment_mark, is_line_end, BeginsWithNo}
 use Rattle.ini_text.specs.Grammar.Keys.{begins_note}
-use Rattle.ini_text.specs.Grammar.Lines.{Note}
+use Rattle.ini_text.specs.Grammar.Lines.{LineTail, Note}
 use Rattle.ini_text.specs.Grammar.Strings.{Closes, plain_ends}
-use Rattle.ini_text.specs.Inside.PlainTests.{begins}
-use Rattle.ini_text.specs.Inside.Scans.{run_of, skipped}
-use Rattle.ini_text.specs.Inside.ValueReader.{is_line_part}
+use Rattle.ini_text.specs.Inside.Scans.{is_line_part, run_of, skipped}
 use Rattle.ini_text.specs.declared.option.ParseOption.{ParseOption}
 use Rattle.ini_text.proofs.GrammarLemmas.KindLemmas.{comment_mark-in_line}
 use Rattle.ini_text.proofs.ReaderLemmas.RunReaderLemmas.{run-finds, run-sound}
@@ -36,6 +34,15 @@ past_mark m t mark = rw (comment_mark-in_line m mark).0 refl
 pub note_read : {m : ℕ} {s r : List ℕ} → Note (m ∷ s) r → skipped is_line_part (s ++ r) ≡ r
 note_read {s = s} {r} (Note.note mark all closes) =
     (run-finds is_line_part s r all (closed_part r closes)).1
+
+-- behind a line's text and its note stands what closes the line
+pub LineTail-closes : {n r : List ℕ} → LineTail n r → Closes plain_ends r
+LineTail-closes (LineTail.none closes) = closes
+LineTail-closes (LineTail.note (Note.note mark all closes)) = closes
+
+-- a note stays one where something else stands after its line end
+pub note_before : {s x : List ℕ} {c : ℕ} (y : List ℕ) → Note s (c ∷ x) → Note s (c ∷ y)
+note_before y (Note.note mark all closes) = Note.note mark all closes
 
 module _ (o : ParseOption) where
   pub no_mark_no_note : (c : ℕ) → is_comment_mark c ≡ false → begins_note o c ≡ false

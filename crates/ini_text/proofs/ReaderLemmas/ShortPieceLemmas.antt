@@ -9,20 +9,18 @@ use Rattle.std.specs.List.{prefix_len}
 use lib.Count.{count_trailing_zeros}
 use Rattle.ini_text.specs.Options.Backslashes.{Escape}
 use Rattle.ini_text.specs.declared.lanes.Three.{Three}
-use Rattle.ini_text.specs.declared.parser.endpoints.Endpoints.{Endpoints}
 use Rattle.ini_text.specs.Grammar.CharacterKinds.{backslash, letter_x, line_feed}
 use Rattle.ini_text.specs.Grammar.EscapeSequences.{control, spelled}
 use Rattle.ini_text.specs.Grammar.Strings.{Ends, plain_ends}
-use Rattle.ini_text.specs.Inside.Endpoints.{ends_of}
 use Rattle.ini_text.specs.Inside.Lanes.{Tells, is_one_of}
 use Rattle.ini_text.specs.Inside.Reading.{found, prepend, and_then}
 use Rattle.ini_text.specs.Inside.Scans.{is_raw}
 use Rattle.ini_text.specs.Inside.ShortPieces.{IsEscape, IsShort, Sees}
 use Rattle.ini_text.specs.Inside.StringReader.{coded_character, string}
 use Rattle.ini_text.proofs.ReaderLemmas.ReaderLemmas.{prepend-nil, prepend-prepend}
-use Rattle.ini_text.proofs.ReaderLemmas.StringReaderLemmas.{string_run, string_pair, string_coded, coded_digits, coded_shortens}
+use Rattle.ini_text.proofs.ReaderLemmas.StringReaderLemmas.{string_run_without_notes, string_pair, string_coded, coded_digits, coded_shortens}
 use Rattle.ini_text.proofs.StringLemmas.LaneLemmas.{Tells-same, same_run, stops_at}
-use Rattle.ini_text.proofs.StringLemmas.RunLemmas.{boundary, raw_wide, split_chars, run_chars}
+use Rattle.ini_text.proofs.StringLemmas.RunLemmas.{boundary, split_chars, run_chars}
 
 -- a text whose first two bytes are ASCII
 pub record BeginsWithTwo (t : List ℕ) (a b : ℕ) : Type 0 where
@@ -125,22 +123,20 @@ twice true = refl
 twice false = refl
 
 -- bits of the bytes at which a run of characters ends
-to_marks : (ends : Endpoints) (three : Three)
-    → ((c : ℕ) → is_raw (ends_of ends) c ≡ not (is_one_of three.0 three.1 three.2 c)) → (c : ℕ)
-    → not (is_raw (ends_of ends) c) ≡ is_one_of three.0 three.1 three.2 c
-to_marks ends three same c = ap not (same c) ∙ sym (twice (is_one_of three.0 three.1 three.2 c))
+to_marks : (to : Ends) (three : Three)
+    → ((c : ℕ) → is_raw to c ≡ not (is_one_of three.0 three.1 three.2 c)) → (c : ℕ)
+    → not (is_raw to c) ≡ is_one_of three.0 three.1 three.2 c
+to_marks to three same c = ap not (same c) ∙ sym (twice (is_one_of three.0 three.1 three.2 c))
 
-pub told : (ends : Endpoints) (three : Three) {bits : ℕ} {t : List ℕ}
-    → ((c : ℕ) → is_raw (ends_of ends) c ≡ not (is_one_of three.0 three.1 three.2 c))
-    → Sees (ends_of ends) bits t
+pub told : (to : Ends) (three : Three) {bits : ℕ} {t : List ℕ}
+    → ((c : ℕ) → is_raw to c ≡ not (is_one_of three.0 three.1 three.2 c)) → Sees to bits t
     → Tells (is_one_of three.0 three.1 three.2) 16 bits t
-told ends three same = Tells-same _ _ (to_marks ends three same)
+told to three same = Tells-same _ _ (to_marks to three same)
 
-pub seen : (ends : Endpoints) (three : Three) {bits : ℕ} {t : List ℕ}
-    → ((c : ℕ) → is_raw (ends_of ends) c ≡ not (is_one_of three.0 three.1 three.2 c))
-    → Tells (is_one_of three.0 three.1 three.2) 16 bits t
-    → Sees (ends_of ends) bits t
-seen ends three same = Tells-same _ _ (λ c. sym (to_marks ends three same c))
+pub seen : (to : Ends) (three : Three) {bits : ℕ} {t : List ℕ}
+    → ((c : ℕ) → is_raw to c ≡ not (is_one_of three.0 three.1 three.2 c))
+    → Tells (is_one_of three.0 three.1 three.2) 16 bits t → Sees to bits t
+seen to three same = Tells-same _ _ (λ c. sym (to_marks to three same c))
 
 -- the run before the first mark that is seen
 pub run_seen : (to : Ends) {bits : ℕ} {t : List ℕ} → Sees to bits t → 0 < bits
@@ -155,17 +151,15 @@ run_seen to {bits} {t} sees some =
     )
 
 -- a run and an escape
-pub short_piece : (ends : Endpoints) (t stop : List ℕ) (n v k : ℕ) → IsUtf8 t → 16 ≤ length t → n ≤ 16
-    → n ≡ prefix_len (is_raw (ends_of ends)) t → stop ≡ drop n t → IsEscape stop v k
-    → IsShort (ends_of ends) t n v k
-short_piece ends t stop n v k u long within is following escape =
-    let plain = is_raw (ends_of ends) in
-    let cut : IsCharBoundary t n = subst (IsCharBoundary t) (sym is) (boundary plain t (raw_wide ends)) in
+pub short_piece : (to : Ends) (t stop : List ℕ) (n v k : ℕ) → to.notes ≡ false
+    → ((c : ℕ) → 128 ≤ c → is_raw to c ≡ true) → IsUtf8 t → 16 ≤ length t → n ≤ 16
+    → n ≡ prefix_len (is_raw to) t → stop ≡ drop n t → IsEscape stop v k → IsShort to t n v k
+short_piece to t stop n v k no_notes wide u long within is following escape =
+    let cut : IsCharBoundary t n = subst (IsCharBoundary t) (sym is) (boundary (is_raw to) t wide) in
     let run = take n t in
     let parts = split_chars t run stop n u cut refl following in
     let rest : drop k stop ≡ drop (n + k) t = ap (drop k) following ∙ drop-drop k n t in
-    let read =
-    escape.read (ends_of ends) ∙ ap (λ x. prepend (v ∷ []) (string Escape (ends_of ends) (chars x))) rest in
+    let read = escape.read to ∙ ap (λ x. prepend (v ∷ []) (string Escape to (chars x))) rest in
     record {
       within = within;
       few = escape.few;
@@ -174,10 +168,10 @@ short_piece ends t stop n v k u long within is following escape =
       cut = IsCharBoundary-from_rest t n k (omega arith)
           (subst (λ x. IsCharBoundary x k) following escape.cut);
       read =
-          string_run Escape (ends_of ends) (chars run) (chars stop) parts
-          (run_chars plain t run n (raw_wide ends) u is refl)
+          string_run_without_notes Escape to (chars run) (chars stop) parts no_notes
+          (run_chars (is_raw to) t run n wide u is refl)
           ∙ ap (prepend (chars run)) read
-          ∙ prepend-prepend (chars run) (v ∷ []) (string Escape (ends_of ends) (chars (drop (n + k) t)));
+          ∙ prepend-prepend (chars run) (v ∷ []) (string Escape to (chars (drop (n + k) t)));
       shorter = omega (
         arith,
         escape.shorter,

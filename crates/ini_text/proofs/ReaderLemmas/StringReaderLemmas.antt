@@ -1,25 +1,26 @@
 -- Reading a string by steps that each take a piece: the reader finds what the grammar says, and the code
 -- gives it.
 use Rattle.std.proofs.Common.{◌≡◌, ◌≢◌, ℕ, zero, suc, ◌+◌, ◌-◌, ◌<◌, Bool, true, false, not, ◌&&◌, ◌||◌, ◌==◌, if◌then◌else◌, List, [], ◌∷◌, ◌++◌, length, Option, Some, None, inl, inr, unwrap_or, refl, sym, ap, ◌∙◌, subst, subst₂, append_assoc, append-nil, length-append, arith, ne_eqb, eq-eqb, eqb-true, true≢false}
-use Rattle.std.proofs.lemmas.Bool.{cases_Bool, cond_both, eqb-false, and_parts, not-true, not-false}
+use Rattle.std.proofs.lemmas.Bool.{both_ways, cases_Bool, cond_both, eqb-false, false_from_ne_true, and_parts, or_cases, not-true, not-false}
 use Rattle.std.proofs.Math.Bool.{and-false}
 use Rattle.std.proofs.lemmas.Option.{cond_some}
 use Rattle.std.specs.Char.{is_digit}
 use Rattle.std.specs.List.{list_all}
-use Rattle.ini_text.specs.declared.option.LoneLine.TheVariants.{RunsOn, Refused}
+use Rattle.ini_text.specs.declared.option.LoneLine.{LoneLine}
+use Rattle.ini_text.specs.declared.option.LoneLine.TheVariants.{RunsOn, Refused, Key}
 use Rattle.ini_text.specs.declared.error.ParseKind.{ParseKind}
 use Rattle.ini_text.specs.declared.error.ParseKind.TheVariants.{EndOfText}
-use Rattle.ini_text.specs.Grammar.CharacterKinds.{backslash, line_feed, plus, letter_x, BeginsWithNo}
+use Rattle.ini_text.specs.Grammar.CharacterKinds.{backslash, line_feed, plus, letter_x, begins, BeginsWithNo, is_blank, is_comment_mark}
 use Rattle.ini_text.specs.Grammar.EscapeSequences.{control, spelled, EscapeSequence, Units, spelled_by, EscapeStops}
 use Rattle.ini_text.specs.Options.ReadOptions.{backslash_of}
 use Rattle.ini_text.specs.declared.option.ParseOption.{ParseOption}
 use Rattle.ini_text.specs.Options.Backslashes.{Backslash, Escape, Kept, Raw, is_special, reads_escapes, begins_escape}
-use Rattle.ini_text.specs.Grammar.Strings.{Ends, is_endpoint, Row, Closes, Str, StrStops}
+use Rattle.ini_text.specs.Grammar.Strings.{Ends, is_endpoint, is_before_note, key_ends, Row, Closes, Str, StrStops}
 use Rattle.ini_text.specs.declared.parser.endpoints.Endpoints.{Endpoints}
 use Rattle.ini_text.specs.declared.parser.endpoints.Endpoints.TheVariants as endpoints
 use Rattle.ini_text.specs.Inside.Endpoints.{ends_of}
 use Rattle.ini_text.specs.Inside.Reading.{Answer, found, stopped, prepend, and_then, Step, more, ends, go_on}
-use Rattle.ini_text.specs.Inside.Scans.{is_raw}
+use Rattle.ini_text.specs.Inside.Scans.{is_raw, is_run, ends_before_note, EndsRun}
 use Rattle.ini_text.specs.Inside.StringReader.{folded_unit, units, character, spelled_character, coded_character, value_after_backslash, as_step, escape, piece, string}
 use Rattle.ini_text.proofs.ReaderLemmas.ReaderLemmas.{prepend-nil, prepend-prepend, Says, IsReader, StepSays, prefixed, and_found, and_stopped, read_after, turn, shortens, reads}
 
@@ -157,14 +158,93 @@ plain_parts b to c h = let two = and_parts (not (c == backslash)) (not (is_endpo
     (rw (not-true (c == backslash) two.0) refl, not-true (is_endpoint to c) two.1)
 
 -- no string ends at a backslash
-pub no_backslash_ends : (e : Endpoints) → is_endpoint (ends_of e) backslash ≡ false
-no_backslash_ends endpoints.Name = refl
-no_backslash_ends endpoints.BracketedName = refl
-no_backslash_ends (endpoints.Key RunsOn) = refl
-no_backslash_ends (endpoints.Key Refused) = refl
-no_backslash_ends endpoints.DoubleQuotes = refl
-no_backslash_ends endpoints.SingleQuotes = refl
-no_backslash_ends endpoints.Plain = refl
+no_backslash_in_keys : (line : LoneLine) → is_endpoint (key_ends line) backslash ≡ false
+no_backslash_in_keys RunsOn = refl
+no_backslash_in_keys Refused = refl
+no_backslash_in_keys Key = refl
+
+pub no_backslash_ends : (o : ParseOption) (e : Endpoints) → is_endpoint (ends_of o e) backslash ≡ false
+no_backslash_ends o endpoints.Name = refl
+no_backslash_ends o endpoints.BracketedName = refl
+no_backslash_ends o endpoints.Key = no_backslash_in_keys o.line_without_separator
+no_backslash_ends o endpoints.DoubleQuotes = refl
+no_backslash_ends o endpoints.SingleQuotes = refl
+no_backslash_ends o endpoints.Plain = refl
+
+-- a blank before a note, and what is none
+pub blank_no_mark : (c : ℕ) → is_blank c ≡ true → is_comment_mark c ≡ false
+blank_no_mark c h = elim (or_cases (c == 32) (c == 9) h)
+    [ inl q ↦ rw (eqb-true c 32 q) refl | inr q ↦ rw (eqb-true c 9 q) refl ]
+
+module _ (to : Ends) where
+  -- the parts of what stands before a note
+  pub note_parts : (c : ℕ) (r : List ℕ) → is_before_note to c r ≡ true
+      → (to.notes ≡ true) × (is_blank c ≡ true) × (begins is_comment_mark r ≡ true)
+  note_parts c r h =
+      let one = and_parts to.notes (is_blank c && begins is_comment_mark r) h in
+      let two = and_parts (is_blank c) (begins is_comment_mark r) one.1 in
+      (one.0, two.0, two.1)
+
+  -- before what begins no note
+  pub no_note_after : (c : ℕ) (r : List ℕ) → begins is_comment_mark r ≡ false → is_before_note to c r ≡ false
+  no_note_after c r n = rw (n, and-false, and-false) refl
+
+  pub no_blank : (c : ℕ) (r : List ℕ) → is_blank c ≡ false → is_before_note to c r ≡ false
+  no_blank c r n = rw (n, and-false) refl
+
+  pub no_note_before : (c : ℕ) (s r : List ℕ) → is_before_note to c (s ++ r) ≡ false
+      → is_before_note to c s ≡ false
+  no_note_before c [] r h = no_note_after c [] refl
+  no_note_before c (d ∷ s) r h = h
+
+  no_note_between : (c : ℕ) (s r : List ℕ) → is_before_note to c s ≡ false → begins is_comment_mark r ≡ false
+      → is_before_note to c (s ++ r) ≡ false
+  no_note_between c [] r h n = no_note_after c r n
+  no_note_between c (d ∷ s) r h n = h
+
+  -- where no string ends before a note
+  pub no_notes : (c : ℕ) (r : List ℕ) → to.notes ≡ false → is_before_note to c r ≡ false
+  no_notes c r off = rw off refl
+
+  -- characters that stand for themselves
+  pub run_without_notes : (run : List ℕ) → to.notes ≡ false → list_all (is_raw to) run ≡ true
+      → is_run to run ≡ true
+  run_without_notes [] off h = refl
+  run_without_notes (c ∷ run) off h =
+      let two = and_parts (is_raw to c) (list_all (is_raw to) run) h in
+      rw (two.0, no_notes c run off) (run_without_notes run off two.1)
+
+  run_parts : (c : ℕ) (run : List ℕ) → is_run to (c ∷ run) ≡ true
+      → (is_raw to c ≡ true) × (is_before_note to c run ≡ false) × (is_run to run ≡ true)
+  run_parts c run h =
+      let one = and_parts (is_raw to c) (not (is_before_note to c run) && is_run to run) h in
+      let two = and_parts (not (is_before_note to c run)) (is_run to run) one.1 in
+      (one.0, not-true (is_before_note to c run) two.0, two.1)
+
+  -- a run that ends before a note
+  pub run_note : (run rest : List ℕ) → ends_before_note to run rest ≡ true
+      → (to.notes ≡ true) × (begins is_comment_mark rest ≡ true)
+  run_note [] rest h = cc
+  run_note (c ∷ []) rest h = let three = note_parts c rest h in (three.0, three.2)
+  run_note (c ∷ d ∷ run) rest h = run_note (d ∷ run) rest h
+
+-- a row without source has no value
+pub empty_row : {e : Backslash} {ends : Ends} {s v : List ℕ} → Row e ends s v → s ≡ [] → v ≡ []
+empty_row Row.none h = refl
+empty_row (Row.raw begins inside no_note row) h = cc
+empty_row (Row.escape sp EscapeSequence.folded row) h = cc
+empty_row (Row.escape sp (EscapeSequence.named on is) row) h = cc
+empty_row (Row.escape sp (EscapeSequence.coded on is) row) h = cc
+empty_row (Row.escape sp (EscapeSequence.itself on n m is) row) h = cc
+empty_row (Row.escape sp (EscapeSequence.kept off n) row) h = cc
+
+-- a stop within an escape begins with its backslash
+no_mark_in_stop : {p s : List ℕ} {k : ParseKind} → EscapeStops p s k → (r : List ℕ)
+    → begins is_comment_mark (p ++ r) ≡ false
+no_mark_in_stop (EscapeStops.cut_short units few) r = refl
+no_mark_in_stop (EscapeStops.cut_in_unit units few) r = refl
+no_mark_in_stop (EscapeStops.broken units few other) r = refl
+no_mark_in_stop (EscapeStops.unknown units four none) r = refl
 
 module _ (b : Backslash) (to : Ends) where
   no_control : (c x v : ℕ) → control x ≡ None → control c ≡ Some v → c ≢ x
@@ -207,38 +287,61 @@ module _ (b : Backslash) (to : Ends) where
   abbrev PieceSays : List ℕ → Step ℕ → Type 0
   PieceSays t x = StepSays (Str b to) (StrStops b to) t x
 
-  row-append : {s v t w : List ℕ} → Row b to s v → Row b to t w → Row b to (s ++ t) (v ++ w)
-  row-append Row.none other = other
-  row-append (Row.raw n inside rest) other = Row.raw n inside (row-append rest other)
-  row-append {t = t} {w = w} (Row.escape {p = p} {w = q} {s = s} {v = v} sp k rest) other =
-      subst₂ (Row b to) (sym (append_assoc p s t)) (sym (append_assoc q v w))
-      (Row.escape sp k (row-append rest other))
+  -- a piece before a string
+  Str-raw : {c : ℕ} {s r v : List ℕ} → begins_escape b c ≡ false → is_endpoint to c ≡ false
+      → is_before_note to c s ≡ false → Str b to s r v → Str b to (c ∷ s) r (c ∷ v)
+  Str-raw n h q (Str.closed x closes) = Str.closed (Row.raw n h q x) closes
+  Str-raw {c} n h q (Str.before_note {s} d x m k e) =
+      Str.before_note d (Row.raw n h (no_note_before to c s (d ∷ []) q) x) m k e
+  Str-raw {c} n h q (Str.lone {s} sp x text) =
+      Str.lone sp (Row.raw n h (no_note_before to c s (backslash ∷ []) q) x) text
 
-  Str-append : {p w s r v : List ℕ} → Row b to p w → Str b to s r v → Str b to (p ++ s) r (w ++ v)
-  Str-append k (Str.closed x h) = Str.closed (row-append k x) h
-  Str-append {p} {w} k (Str.lone {s} {v} sp x h) =
+  Str-escape : {p w s r v : List ℕ} → is_special b ≡ true → EscapeSequence (reads_escapes b) p w
+      → Str b to s r v → Str b to (p ++ s) r (w ++ v)
+  Str-escape sp k (Str.closed x closes) = Str.closed (Row.escape sp k x) closes
+  Str-escape {p} {w} {r = r} sp k (Str.before_note {s} {v = v} d x m h e) =
+      subst₂ (λ y z. Str b to y r z) (append_assoc p s (d ∷ [])) (append_assoc w v (d ∷ []))
+      (Str.before_note d (Row.escape sp k x) m h e)
+  Str-escape {p} {w} sp k (Str.lone {s} {v} _ x text) =
       subst₂ (λ y z. Str b to y [] z) (append_assoc p s (backslash ∷ [])) (append_assoc w v (backslash ∷ []))
-      (Str.lone sp (row-append k x) h)
+      (Str.lone sp (Row.escape sp k x) text)
 
-  StrStops-append : {p w s r : List ℕ} {k : ParseKind} → Row b to p w → StrStops b to s r k
-      → StrStops b to (p ++ s) r k
-  StrStops-append k (StrStops.at_end x h) = StrStops.at_end (row-append k x) h
-  StrStops-append {p} k (StrStops.after_backslash {s} sp x h) =
+  StrStops-raw : {c : ℕ} {s r : List ℕ} {k : ParseKind} → begins_escape b c ≡ false
+      → is_endpoint to c ≡ false → is_before_note to c s ≡ false → StrStops b to s r k
+      → StrStops b to (c ∷ s) r k
+  StrStops-raw n h q (StrStops.at_end x text) = StrStops.at_end (Row.raw n h q x) text
+  StrStops-raw {c} n h q (StrStops.after_backslash {s} sp x text) =
+      StrStops.after_backslash sp (Row.raw n h (no_note_before to c s (backslash ∷ []) q) x) text
+  StrStops-raw {c} n h q (StrStops.in_escape {s} {p = p} x on stop) =
+      StrStops.in_escape (Row.raw n h (no_note_before to c s p q) x) on stop
+
+  StrStops-escape : {p w s r : List ℕ} {kind : ParseKind} → is_special b ≡ true
+      → EscapeSequence (reads_escapes b) p w → StrStops b to s r kind → StrStops b to (p ++ s) r kind
+  StrStops-escape sp k (StrStops.at_end x text) = StrStops.at_end (Row.escape sp k x) text
+  StrStops-escape {p} sp k (StrStops.after_backslash {s} _ x text) =
       subst (λ y. StrStops b to y [] EndOfText) (append_assoc p s (backslash ∷ []))
-      (StrStops.after_backslash sp (row-append k x) h)
-  StrStops-append {p} k (StrStops.in_escape {s} {p = q} {r} {kind} x on h) =
-      subst (λ y. StrStops b to y r kind) (append_assoc p s q) (StrStops.in_escape (row-append k x) on h)
+      (StrStops.after_backslash sp (Row.escape sp k x) text)
+  StrStops-escape {p} sp k (StrStops.in_escape {s} {p = q} {r} {kind} x on stop) =
+      subst (λ y. StrStops b to y r kind) (append_assoc p s q)
+      (StrStops.in_escape (Row.escape sp k x) on stop)
 
-  following : {p w : List ℕ} → Row b to p w → (r : List ℕ) (a : Answer ℕ) → StringSays b to r a
-      → StringSays b to (p ++ r) (prepend w a)
-  following {p} {w} k r =
-      prefixed p w r (λ s x v str. Str-append k str) (λ s x kind stops. StrStops-append k stops)
+  raw-following : (c : ℕ) → begins_escape b c ≡ false → is_endpoint to c ≡ false → (t : List ℕ)
+      → is_before_note to c t ≡ false → (a : Answer ℕ) → StringSays b to t a
+      → StringSays b to (c ∷ t) (prepend (c ∷ []) a)
+  raw-following c n h t q (found v r) (s, str, whole) =
+      let none = no_note_before to c s r (subst (λ y. is_before_note to c y ≡ false) (sym whole) q) in
+      (c ∷ s, Str-raw n h none str, ap (λ y. c ∷ y) whole)
+  raw-following c n h t q (stopped r k) (s, stop, whole) =
+      let none = no_note_before to c s r (subst (λ y. is_before_note to c y ≡ false) (sym whole) q) in
+      (c ∷ s, StrStops-raw n h none stop, ap (λ y. c ∷ y) whole)
 
   escaped : {p w : List ℕ} (r : List ℕ) → is_special b ≡ true → EscapeSequence (reads_escapes b) p w
       → length r < length (p ++ r)
       → PieceSays (p ++ r) (more w r)
-  escaped {p} {w} r sp k l =
-      (l, following (subst₂ (Row b to) (append-nil p) (append-nil w) (Row.escape sp k Row.none)) r)
+  escaped {p} {w} r sp k l = (
+    l,
+    prefixed p w r (λ s x v str. Str-escape sp k str) (λ s x kind stop. StrStops-escape sp k stop),
+  )
 
   character-sound : {u : List ℕ} {us : List (Option ℕ)} (r : List ℕ) → reads_escapes b ≡ true → Units u us
       → length us ≡ 4 → (o : Option ℕ) → spelled_by us ≡ o
@@ -285,7 +388,10 @@ module _ (b : Backslash) (to : Ends) where
         rw (q, eqb-true c 92 two.0) (escape-sound two.1 cs)
     | inr n ↦ elim (cases_Bool (is_endpoint to c)) [
       | inl h ↦ rw (n, h) ([], Str.closed Row.none h, refl)
-      | inr h ↦ rw (n, h) (omega arith, following (Row.raw n h Row.none) cs)
+      | inr h ↦ elim (cases_Bool (is_before_note to c cs)) [
+        | inl e ↦ rw (n, h, e) (c ∷ [], Str.before_note c Row.none n h e, refl)
+        | inr e ↦ rw (n, h, e) (omega arith, raw-following c n h cs e)
+      ]
     ]
   ]
 
@@ -294,27 +400,65 @@ module _ (b : Backslash) (to : Ends) where
   unfolding string
   string-turn t = turn (Str b to) (StrStops b to) (piece b to) piece-sound t
 
-  Row-read : {s v : List ℕ} → Row b to s v → (r : List ℕ) → string b to (s ++ r) ≡ prepend v (string b to r)
-  Row-read Row.none r = sym (prepend-nil (string b to r))
-  Row-read (Row.raw {c} {s} {v} n h x) r =
+  -- before what begins no note
+  Row-read : {s v : List ℕ} → Row b to s v → (r : List ℕ) → begins is_comment_mark r ≡ false
+      → string b to (s ++ r) ≡ prepend v (string b to r)
+  Row-read Row.none r none = sym (prepend-nil (string b to r))
+  Row-read (Row.raw {c} {s} {v} n h q x) r none =
       string-turn (c ∷ (s ++ r))
-      ∙ rw (n, h)
-      (ap (prepend (c ∷ [])) (Row-read x r) ∙ prepend-prepend (c ∷ []) v (string b to r))
-  Row-read (Row.escape {p} {w} {s} {v} sp k x) r =
+      ∙ rw (n, h, no_note_between to c s r q none)
+      (ap (prepend (c ∷ [])) (Row-read x r none) ∙ prepend-prepend (c ∷ []) v (string b to r))
+  Row-read (Row.escape {p} {w} {s} {v} sp k x) r none =
       ap (string b to) (append_assoc p s r) ∙ string-turn (p ++ (s ++ r))
       ∙ ap (go_on (string b to)) (piece-escape sp k (s ++ r))
-      ∙ ap (prepend w) (Row-read x r) ∙ prepend-prepend w v (string b to r)
+      ∙ ap (prepend w) (Row-read x r none) ∙ prepend-prepend w v (string b to r)
 
-  run_row : (run : List ℕ) → list_all (is_raw to) run ≡ true → Row b to run run
-  run_row [] h = Row.none
-  run_row (c ∷ run) h =
-      let two = and_parts (is_raw to c) (list_all (is_raw to) run) h in let plain =
-      plain_parts b to c two.0 in Row.raw plain.0 plain.1 (run_row run two.1)
+  -- characters that stand for themselves, of which a note follows the last or doesn't
+  run_goes_on : (run rest : List ℕ) → is_run to run ≡ true → ends_before_note to run rest ≡ false
+      → string b to (run ++ rest) ≡ prepend run (string b to rest)
+  run_goes_on [] rest h e = sym (prepend-nil (string b to rest))
+  run_goes_on (c ∷ []) rest h e =
+      let plain = plain_parts b to c (run_parts to c [] h).0 in
+      string-turn (c ∷ rest) ∙ rw (plain.0, plain.1, e) refl
+  run_goes_on (c ∷ d ∷ run) rest h e =
+      let three = run_parts to c (d ∷ run) h in
+      let plain = plain_parts b to c three.0 in
+      string-turn (c ∷ d ∷ (run ++ rest)) ∙ rw (plain.0, plain.1, three.1)
+      (ap (prepend (c ∷ [])) (run_goes_on (d ∷ run) rest three.2 e)
+      ∙ prepend-prepend (c ∷ []) (d ∷ run) (string b to rest))
 
-  -- characters that stand for themselves
-  pub string_run : {t : List ℕ} (run rest : List ℕ) → t ≡ run ++ rest → list_all (is_raw to) run ≡ true
+  run_before_note : (run rest : List ℕ) → is_run to run ≡ true → ends_before_note to run rest ≡ true
+      → string b to (run ++ rest) ≡ found run rest
+  run_before_note [] rest h e = cc
+  run_before_note (c ∷ []) rest h e =
+      let plain = plain_parts b to c (run_parts to c [] h).0 in
+      string-turn (c ∷ rest) ∙ rw (plain.0, plain.1, e) refl
+  run_before_note (c ∷ d ∷ run) rest h e =
+      let three = run_parts to c (d ∷ run) h in
+      let plain = plain_parts b to c three.0 in
+      string-turn (c ∷ d ∷ (run ++ rest)) ∙ rw (plain.0, plain.1, three.1)
+      (ap (prepend (c ∷ [])) (run_before_note (d ∷ run) rest three.2 e))
+
+  pub string_run : {t : List ℕ} (run rest : List ℕ) → t ≡ run ++ rest → is_run to run ≡ true
+      → begins is_comment_mark rest ≡ false → string b to t ≡ prepend run (string b to rest)
+  string_run run rest whole h none =
+      ap (string b to) whole ∙ run_goes_on run rest h (false_from_ne_true (ends_before_note to run rest)
+      (λ note. both_ways (begins is_comment_mark rest) none (run_note to run rest note).1))
+
+  pub run_to_end : {t : List ℕ} (run rest : List ℕ) → t ≡ run ++ rest → is_run to run ≡ true → rest ≡ []
       → string b to t ≡ prepend run (string b to rest)
-  string_run run rest whole h = ap (string b to) whole ∙ Row-read (run_row run h) rest
+  run_to_end run rest whole h none = string_run run rest whole h (rw none refl)
+
+  pub run_to_backslash : {t cs : List ℕ} {c : ℕ} (run rest : List ℕ) → t ≡ run ++ rest → is_run to run ≡ true
+      → rest ≡ c ∷ cs → c ≡ backslash → string b to t ≡ prepend run (string b to rest)
+  run_to_backslash run rest whole h first is = string_run run rest whole h (rw (first, is) refl)
+
+  pub string_run_without_notes : {t : List ℕ} (run rest : List ℕ) → t ≡ run ++ rest → to.notes ≡ false
+      → list_all (is_raw to) run ≡ true → string b to t ≡ prepend run (string b to rest)
+  string_run_without_notes run rest whole off h =
+      ap (string b to) whole ∙ run_goes_on run rest (run_without_notes to run off h)
+      (false_from_ne_true (ends_before_note to run rest)
+      (λ note. both_ways to.notes off (run_note to run rest note).0))
 
   pub string_at_end : {t : List ℕ} {text : Bool} → t ≡ [] → text ≡ to.text
       → string b to t ≡ (if text then found [] t else stopped t EndOfText)
@@ -327,12 +471,24 @@ module _ (b : Backslash) (to : Ends) where
       not-false (is_endpoint to c) (rw (is, ne_eqb c 92 n) at closes) in
       rw is (string-turn (c ∷ cs) ∙ rw (ne_eqb c 92 n, other))
 
+  -- the whole string, where no backslash and no end of the text follows the run
+  pub string_ends : {t cs : List ℕ} {c : ℕ} (run rest : List ℕ) → t ≡ run ++ rest → is_run to run ≡ true
+      → EndsRun to run rest → rest ≡ c ∷ cs → c ≢ backslash → string b to t ≡ found run rest
+  string_ends run rest whole h stops is n = elim (cases_Bool (ends_before_note to run rest)) [
+    | inl note ↦ ap (string b to) whole ∙ run_before_note run rest h note
+    | inr none ↦
+        let closes : BeginsWithNo (is_raw to) rest = elim stops
+        [ inl closes ↦ closes | inr note ↦ absurd (both_ways (ends_before_note to run rest) none note) ] in
+        and_found run (ap (string b to) whole ∙ run_goes_on run rest h none)
+        (string_at_endpoint is n closes) (sym (append-nil run))
+  ]
+
   -- a backslash that is a character like any other
   pub string_raw_backslash : {t cs : List ℕ} {c : ℕ} → is_special b ≡ false
       → is_endpoint to backslash ≡ false
       → t ≡ c ∷ cs → c ≡ backslash → string b to t ≡ prepend (backslash ∷ []) (string b to cs)
   string_raw_backslash {cs = cs} off apart first is =
-      rw (first, is) (string-turn (backslash ∷ cs) ∙ rw (off, apart))
+      rw (first, is) (string-turn (backslash ∷ cs) ∙ rw (off, apart, no_blank to backslash cs refl) refl)
 
   pub string_at_backslash : {t cs : List ℕ} {c : ℕ} {text : Bool} → is_special b ≡ true → t ≡ c ∷ cs
       → c ≡ backslash → cs ≡ [] → text ≡ to.text
@@ -377,6 +533,27 @@ module _ (b : Backslash) (to : Ends) where
           h,
         )
 
+    -- a row before what closes it
+    closed_row : {s v : List ℕ} → Row b to s v → (r : List ℕ) → Closes to r
+        → string b to (s ++ r) ≡ found v r
+    closed_row Row.none r closes = closed r closes
+    closed_row (Row.raw {c} {s} {v} n h q x) r closes = elim (cases_Bool (is_before_note to c (s ++ r))) [
+      | inl note ↦
+          let none : s ≡ [] = no_source c s r q note in
+          string-turn (c ∷ (s ++ r)) ∙ rw (n, h, note)
+          (ap (λ y. found (c ∷ []) (y ++ r)) none ∙ ap (λ y. found (c ∷ y) r) (sym (empty_row x none)))
+      | inr other ↦
+          string-turn (c ∷ (s ++ r)) ∙ rw (n, h, other) (ap (prepend (c ∷ [])) (closed_row x r closes))
+    ]
+      where
+        no_source : (c : ℕ) (s r : List ℕ) → is_before_note to c s ≡ false
+            → is_before_note to c (s ++ r) ≡ true → s ≡ []
+        no_source c [] r q note = refl
+        no_source c (d ∷ s) r q note = absurd (both_ways (is_before_note to c (d ∷ s)) q note)
+    closed_row (Row.escape {p} {w} {s} {v} sp k x) r closes =
+        ap (string b to) (append_assoc p s r) ∙ string-turn (p ++ (s ++ r))
+        ∙ ap (go_on (string b to)) (piece-escape sp k (s ++ r)) ∙ ap (prepend w) (closed_row x r closes)
+
     pub string-reads : IsReader (Str b to) (StrStops b to) (string b to)
     unfolding string
     string-reads = record {
@@ -386,16 +563,19 @@ module _ (b : Backslash) (to : Ends) where
     }
       where
         finds : {s r v : List ℕ} → Str b to s r v → string b to (s ++ r) ≡ found v r
-        finds {r = r} (Str.closed {v = v} x h) = and_found v (Row-read x r) (closed r h) (sym (append-nil v))
+        finds {r = r} (Str.closed x h) = closed_row x r h
+        finds {r = r} (Str.before_note {s} {v = v} c x n h e) =
+            rw (append_assoc s) (and_found v (Row-read x (c ∷ r) (blank_no_mark c (note_parts to c r e).1))
+            (string-turn (c ∷ r) ∙ rw (n, h, e) refl) refl)
         finds (Str.lone {s} {v} sp x h) =
-            rw (append_assoc s) (and_found v (Row-read x (backslash ∷ []))
+            rw (append_assoc s) (and_found v (Row-read x (backslash ∷ []) refl)
             (string_at_backslash sp refl refl refl (sym h)) refl)
 
         stops : {s r : List ℕ} {k : ParseKind} → StrStops b to s r k → string b to (s ++ r) ≡ stopped r k
-        stops (StrStops.at_end {v = v} x h) = and_stopped v (Row-read x []) (string_at_end refl (sym h))
+        stops (StrStops.at_end {v = v} x h) = and_stopped v (Row-read x [] refl) (string_at_end refl (sym h))
         stops (StrStops.after_backslash {s} {v} sp x h) =
-            rw (append_assoc s) (and_stopped v (Row-read x (backslash ∷ []))
+            rw (append_assoc s) (and_stopped v (Row-read x (backslash ∷ []) refl)
             (string_at_backslash sp refl refl refl (sym h)))
         stops (StrStops.in_escape {s} {v} {p} {r} x on h) =
-            rw (append_assoc s) (and_stopped v (Row-read x (p ++ r))
+            rw (append_assoc s) (and_stopped v (Row-read x (p ++ r) (no_mark_in_stop h r))
             (string-turn (p ++ r) ∙ ap (go_on (string b to)) (piece-stops on h)))

@@ -1,25 +1,22 @@
 -- Trivia, by the character with which they begin, and rows of them.
 use Rattle.std.proofs.Common.{◌≡◌, ◌≤◌, ◌<◌, ℕ, true, false, List, [], ◌∷◌, ◌++◌, length, refl, sym, ap, ◌∙◌, subst, append_assoc, arith, length-append, inl, inr, eqb-true, Option, Some, None, MatchOption, ◌&&◌, ◌==◌}
-use Rattle.std.proofs.lemmas.Bool.{cases_Bool, and_parts, false≢true, not-false}
+use Rattle.std.proofs.lemmas.Bool.{cases_Bool, and_parts, cond-true, cond-false, false≢true, not-false}
 use Rattle.std.specs.Char.{is_whitespace}
 use Rattle.std.specs.List.{list_all}
-use Rattle.ini_text.specs.Grammar.CharacterKinds.{line_feed, is_blank, is_comment_mark, is_line_end, BeginsWithNo}
-use Rattle.ini_text.specs.Grammar.Elements.{Gap, Element}
+use Rattle.ini_text.specs.Grammar.CharacterKinds.{line_feed, begins, is_blank, is_comment_mark, is_line_end, BeginsWithNo}
+use Rattle.ini_text.specs.Grammar.Elements.{Gap, Element, may_have_note}
 use Rattle.ini_text.specs.Grammar.Keys.{Indentation, begins_note}
 use Rattle.ini_text.specs.Grammar.Lines.{Note}
 use Rattle.ini_text.specs.Grammar.Positions.{starts_line, is_column_one}
 use Rattle.ini_text.specs.Inside.ElementReader.{is_comment_part}
-use Rattle.ini_text.specs.Inside.PlainTests.{begins}
-use Rattle.ini_text.specs.Inside.Scans.{run_of, skipped}
+use Rattle.ini_text.specs.Inside.Scans.{is_line_part, run_of, skipped}
 use Rattle.ini_text.specs.Inside.TriviaSearch.{past_end, past_first, past_line_end, after_line_feed}
-use Rattle.ini_text.specs.Inside.ValueReader.{is_line_part}
 use Rattle.ini_text.specs.Parsing.Fronts.{front_of, IsRest}
 use Rattle.ini_text.specs.Parsing.Trivia.{IsTrivia, BeginsWithNoTrivia, AreTrivia, SkipsTrivia}
 use Rattle.ini_text.specs.declared.option.ParseOption.{ParseOption}
-use Rattle.ini_text.proofs.GrammarLemmas.KindLemmas.{blank_is_white, comment_mark-apart, comment_mark-in_line, line_end_no_blank}
-use Rattle.ini_text.proofs.LawLemmas.OneAheadLemmas.{Alike, Note-alike}
+use Rattle.ini_text.proofs.GrammarLemmas.KindLemmas.{comment_mark-apart, comment_mark-in_line, line_end_no_blank}
 use Rattle.ini_text.proofs.StringLemmas.FrontLemmas.{front_grows}
-use Rattle.ini_text.proofs.ReaderLemmas.NoteLemmas.{no_mark_no_note, note_read, past_mark, some_note}
+use Rattle.ini_text.proofs.ReaderLemmas.NoteLemmas.{no_mark_no_note, note_at, note_before, note_read, past_mark, some_note}
 use Rattle.ini_text.proofs.ReaderLemmas.RunReaderLemmas.{run-finds, run-sound}
 
 module _ (o : ParseOption) where
@@ -48,9 +45,8 @@ module _ (o : ParseOption) where
     -- the trivia with which a text begins
     data First : List ℕ → Type 0 where
       line : {w t after : List ℕ} → Indentation b w → EndsLine t after → First (w ++ t)
-      after_cr : {m c : ℕ} {s after : List ℕ} → o.enabled_indented_comment ≡ true → starts_line b ≡ true
-          → is_column_one b ≡ false → is_line_end c ≡ true → Note (m ∷ s) (c ∷ after)
-          → First (m ∷ (s ++ c ∷ after))
+      note : {m c : ℕ} {s after : List ℕ} → may_have_note o b ≡ true → is_column_one b ≡ false
+          → is_line_end c ≡ true → Note (m ∷ s) (c ∷ after) → First (m ∷ (s ++ c ∷ after))
       white : {c : ℕ} (t : List ℕ) → is_whitespace c ≡ true → (is_blank c ≡ true → starts_line b ≡ false)
           → First (c ∷ t)
       comment : {m : ℕ} (s t : List ℕ) → is_column_one b ≡ true → is_comment_mark m ≡ true
@@ -71,22 +67,22 @@ module _ (o : ParseOption) where
     anywhere_first r (Element.comment s one mark all) = comment_first s r one mark all
     anywhere_first r (Element.indented_comment on ind (Note.note mark all closes)) =
         absurd (false≢true closes)
-    anywhere_first r (Element.comment_after_cr on start late (Note.note mark all closes)) =
-        absurd (false≢true closes)
+    anywhere_first r (Element.note may late (Note.note mark all closes)) = absurd (false≢true closes)
 
     before_end_first : {s : List ℕ} {c : ℕ} (r : List ℕ) → is_line_end c ≡ true → Element o b s (c ∷ r) []
         → First (s ++ c ∷ r)
     before_end_first {c = c} r end (Element.gap (Gap.blank_line {w} d ind h)) =
-        subst First (sym (append_assoc w (d ∷ []) (c ∷ r))) (First.line ind (EndsLine.bare {after = c ∷ r} h))
+        subst First (sym (append_assoc w (d ∷ []) (c ∷ r)))
+        (First.line ind (EndsLine.bare {after = c ∷ r} h))
     before_end_first r end (Element.gap (Gap.before_header ind)) = absurd (false≢true end)
     before_end_first {c = c} r end (Element.gap (Gap.white h n)) = First.white (c ∷ r) h n
     before_end_first {c = c} r end (Element.comment s one mark all) = comment_first s (c ∷ r) one mark all
-    before_end_first {c = c} r end (Element.indented_comment {w} on ind (Note.note {m} {s} mark all closes)) =
+    before_end_first {c = c} r end
+        (Element.indented_comment {w} on ind (Note.note {m} {s} mark all closes)) =
         subst First (sym (append_assoc w (m ∷ s) (c ∷ r)))
         (First.line ind (EndsLine.marked {after = r} on end (Note.note mark all closes)))
-    before_end_first {c = c} r end
-        (Element.comment_after_cr on start late (Note.note {m} {s} mark all closes)) =
-        First.after_cr {after = r} on start late end (Note.note mark all closes)
+    before_end_first {c = c} r end (Element.note may late (Note.note {m} {s} mark all closes)) =
+        First.note {after = r} may late end (Note.note mark all closes)
 
     first : {s : List ℕ} (r : List ℕ) → IsTrivia o b s → First (s ++ r)
     first r (IsTrivia.element e) = anywhere_first r (e (0x61 ∷ []))
@@ -97,16 +93,19 @@ module _ (o : ParseOption) where
     first-finds : {t : List ℕ} → First t → (after : List ℕ) × (past_first o b t ≡ Some after)
     first-finds (First.line {w = []} ind rest) = let none = ind.some in cc
     first-finds (First.line {w = c ∷ w} {t} {after} ind rest) =
-        let blank : list_all is_blank w ≡ true = (and_parts (is_blank c) (list_all is_blank w) ind.blank).1 in (
+        let blank : list_all is_blank w ≡ true = (and_parts (is_blank c) _ ind.blank).1 in (
           after,
           rw (ind.some, ind.at_line_start, (run-finds is_blank w t blank (no_blank_there rest)).1)
               (ends_line-finds rest),
         )
-    first-finds (First.after_cr {m} {c} {s} {after} on start late end (Note.note mark all closes)) =
+    first-finds (First.note {m} {c} {s} {after} may late end (Note.note mark all closes)) =
         let apart = comment_mark-apart m mark in
-        let rest : past_line_end o (m ∷ (s ++ c ∷ after)) ≡ Some after =
-        ends_line-finds (EndsLine.marked {m = m} {c = c} {s = s} on end (Note.note mark all closes)) in
-        (after, rw (start, late, mark, apart.0, apart.1, on) (rw (mark, on) at rest))
+        let read = note_read {m = m} {s = s} {r = c ∷ after} (Note.note mark all closes) in
+        let ends : past_end (skipped is_line_part (s ++ c ∷ after)) ≡ Some after = rw (read, end) refl in (
+          after,
+          rw (apart.0, apart.1, mark) (cond-false (is_column_one b) _ _ late
+              ∙ cond-true (may_have_note o b) _ _ may ∙ ends),
+        )
     first-finds (First.white {c} t h n) =
         let apart : (is_blank c && starts_line b) ≡ false = elim (cases_Bool (is_blank c))
         [ inl q ↦ rw (q, n q) refl | inr q ↦ rw q refl ] in
@@ -128,36 +127,35 @@ module _ (o : ParseOption) where
       pub trivia : IsTrivia o b source
 
     -- what is found ends a line
+    end_at : (t : List ℕ) {after : List ℕ} → past_end t ≡ Some after
+        → (c : ℕ) × (is_line_end c ≡ true) × (t ≡ c ∷ after)
+    end_at [] is = let z : None ≡ Some _ = is in cc
+    end_at (c ∷ cs) {after} is = elim (cases_Bool (is_line_end c)) [
+      | inl h ↦
+          let z : Some cs ≡ Some after = rw h at is in
+          let same : cs ≡ after = cc in
+          (c, h, ap (λ y. c ∷ y) same)
+      | inr n ↦ let z : None ≡ Some after = rw n at is in cc
+    ]
+
     end_found : (t : List ℕ) {after : List ℕ} → past_line_end o t ≡ Some after → EndsLine t after
     end_found t {after} is = elim (cases_Bool (begins (begins_note o) t)) [
-      | inl h ↦ with_note (some_note o t h) (rw h at is)
-      | inr n ↦ at_end t (rw n at is)
+      | inl h ↦ with_note (some_note o t h) (end_at (skipped is_line_part t) (rw h at is))
+      | inr n ↦ bare (end_at t (rw n at is))
     ]
       where
-        at_end : (t : List ℕ) → past_end t ≡ Some after → EndsLine t after
-        at_end [] is = let z : None ≡ Some after = is in cc
-        at_end (c ∷ cs) is = elim (cases_Bool (is_line_end c)) [
-          | inl h ↦ let z : Some cs ≡ Some after = rw h at is in let same : cs ≡ after = cc in
-              subst (λ y. EndsLine (c ∷ y) after) (sym same) (EndsLine.bare h)
-          | inr n ↦ let z : None ≡ Some after = rw n at is in cc
-        ]
+        bare : (c : ℕ) × (is_line_end c ≡ true) × (t ≡ c ∷ after) → EndsLine t after
+        bare (c, end, whole) = subst (λ y. EndsLine y after) (sym whole) (EndsLine.bare end)
 
         with_note : (o.enabled_indented_comment ≡ true) × (n : List ℕ) × Note n (skipped is_line_part t)
-            × (n ++ skipped is_line_part t ≡ t) → past_end (skipped is_line_part t) ≡ Some after
-            → EndsLine t after
-        with_note (on, n, noted, whole) is = subst (λ y. EndsLine y after) whole (at on noted (skipped is_line_part t) refl is)
+            × (n ++ skipped is_line_part t ≡ t)
+            → (c : ℕ) × (is_line_end c ≡ true) × (skipped is_line_part t ≡ c ∷ after) → EndsLine t after
+        with_note (on, n, noted, whole) (c, end, rest) =
+            subst (λ y. EndsLine y after) (ap (λ y. n ++ y) (sym rest) ∙ whole)
+            (at (subst (Note n) rest noted))
           where
-            at : {n : List ℕ} → o.enabled_indented_comment ≡ true → Note n (skipped is_line_part t)
-                → (r : List ℕ) → skipped is_line_part t ≡ r → past_end r ≡ Some after
-                → EndsLine (n ++ skipped is_line_part t) after
-            at on (Note.note mark all closes) [] q is = let z : None ≡ Some after = is in cc
-            at on (Note.note {m} {s} mark all closes) (c ∷ cs) q is = elim (cases_Bool (is_line_end c)) [
-              | inl h ↦ let z : Some cs ≡ Some after = rw h at is in let same : cs ≡ after = cc in
-                  let rest : skipped is_line_part t ≡ c ∷ after = q ∙ ap (λ y. c ∷ y) same in
-                  subst (λ y. EndsLine (m ∷ (s ++ y)) after) (sym rest)
-                  (EndsLine.marked on h (subst (Note (m ∷ s)) rest (Note.note mark all closes)))
-              | inr n ↦ let z : None ≡ Some after = rw n at is in cc
-            ]
+            at : {n : List ℕ} → Note n (c ∷ after) → EndsLine (n ++ c ∷ after) after
+            at (Note.note mark all closes) = EndsLine.marked on end (Note.note mark all closes)
 
     line_after : {w t after : List ℕ} → Indentation b w → EndsLine t after → IsAfter (w ++ t) after
     line_after {w} {after = after} ind (EndsLine.bare {c} h) = record {
@@ -171,7 +169,7 @@ module _ (o : ParseOption) where
       whole =
           sym (append_assoc (w ++ m ∷ s) (c ∷ []) after ∙ append_assoc w (m ∷ s) (c ∷ after));
       some = omega (arith, length-append (w ++ m ∷ s) (c ∷ []));
-      trivia = IsTrivia.line h (λ r. Element.indented_comment on ind (Note-alike Alike.same noted));
+      trivia = IsTrivia.line h (λ r. Element.indented_comment on ind (note_before r noted));
     }
 
     found_after : {c : ℕ} (cs : List ℕ) {after : List ℕ} → past_first o b (c ∷ cs) ≡ Some after
@@ -201,10 +199,10 @@ module _ (o : ParseOption) where
               subst (λ y. IsAfter (c ∷ y) after) split.whole
               (commented (run_of is_comment_part cs) (skipped is_comment_part cs) two.1 two.0 split.all
               split.ends (rw (n, x, m) at is))
-          | inr m ↦ elim (cases_Bool (starts_line b && begins_note o c)) [
-            | inl h ↦ returned (and_parts (starts_line b) (begins_note o c) h).0 m
-                (and_parts (starts_line b) (begins_note o c) h).1
-                (end_found (c ∷ cs) (rw (n, x, m, h) at is))
+          | inr m ↦ elim (cases_Bool (is_comment_mark c && may_have_note o b)) [
+            | inl h ↦
+                let two = and_parts (is_comment_mark c) (may_have_note o b) h in
+                noted two.0 two.1 (rw two.0 at m) (end_at (skipped is_line_part cs) (rw (n, x, m, h) at is))
             | inr k ↦ let z : None ≡ Some after = rw (n, x, m, k) at is in cc
           ]
         ]
@@ -225,19 +223,19 @@ module _ (o : ParseOption) where
               trivia = IsTrivia.element (λ r. Element.comment w one mark all);
             })
 
-        returned : {t : List ℕ} → starts_line b ≡ true → (is_comment_mark c && is_column_one b) ≡ false
-            → begins_note o c ≡ true → EndsLine (c ∷ t) after → IsAfter (c ∷ t) after
-        returned start late begins (EndsLine.bare h) =
-            let mark = (and_parts o.enabled_indented_comment (is_comment_mark c) begins).1 in
-            absurd (false≢true (sym (comment_mark-in_line c mark).0 ∙ h))
-        returned start late begins (EndsLine.marked {c = e} {s = s} on h noted) =
-            let mark = (and_parts o.enabled_indented_comment (is_comment_mark c) begins).1 in
+        noted : is_comment_mark c ≡ true → may_have_note o b ≡ true → is_column_one b ≡ false
+            → (e : ℕ) × (is_line_end e ≡ true) × (skipped is_line_part cs ≡ e ∷ after)
+            → IsAfter (c ∷ cs) after
+        noted mark may late (e, end, rest) =
+            let s = run_of is_line_part cs in
+            let whole : s ++ e ∷ after ≡ cs =
+            ap (λ y. s ++ y) (sym rest) ∙ (run-sound is_line_part cs).whole in
+            let here : Note (c ∷ s) (e ∷ after) = subst (Note (c ∷ s)) rest (note_at c cs mark) in
             record {
               source = (c ∷ s) ++ e ∷ [];
-              whole = ap (λ y. c ∷ y) (sym (append_assoc s (e ∷ []) after));
+              whole = ap (λ y. c ∷ y) (sym whole ∙ sym (append_assoc s (e ∷ []) after));
               some = omega arith;
-              trivia = IsTrivia.line h (λ r. Element.comment_after_cr on start (rw mark at late)
-                  (Note-alike Alike.same noted));
+              trivia = IsTrivia.line end (λ r. Element.note may late (note_before r here));
             }
 
     -- by what the code finds

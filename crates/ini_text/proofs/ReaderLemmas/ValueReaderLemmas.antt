@@ -5,25 +5,23 @@ use Rattle.std.proofs.Math.Bool.{or-false}
 use Rattle.std.proofs.lemmas.Bool.{cases_Bool, cond_both, and_parts, or_parts}
 use Rattle.std.proofs.lemmas.List.{append_cancel_left}
 use Rattle.std.specs.List.{list_all}
-use Rattle.ini_text.specs.Options.Backslashes.{Backslash}
 use Rattle.ini_text.specs.declared.option.ParseOption.{ParseOption}
 use Rattle.ini_text.specs.declared.error.ParseKind.{ParseKind}
-use Rattle.ini_text.specs.Grammar.CharacterKinds.{line_feed, carriage_return, is_blank, is_line_end, is_inline_white, BeginsWith, BeginsWithNo}
+use Rattle.ini_text.specs.Grammar.CharacterKinds.{line_feed, carriage_return, begins, is_blank, is_line_end, is_inline_white, BeginsWith, BeginsWithNo}
 use Rattle.ini_text.specs.Grammar.WhiteSpace.{Lead, without_outer_line_feeds}
-use Rattle.ini_text.specs.Grammar.Strings.{plain_ends, Closes, Str}
+use Rattle.ini_text.specs.Grammar.Strings.{plain_ends, Closes}
 use Rattle.ini_text.specs.Grammar.Keys.{begins_note}
 use Rattle.ini_text.specs.Grammar.Lines.{Line, Note}
 use Rattle.ini_text.specs.Grammar.Values.{CommentLine, GoesOn, LineEnd, MoreLines, Value, MoreLinesStop, ValueStops}
 use Rattle.ini_text.specs.Inside.LineReader.{line}
 use Rattle.ini_text.specs.Inside.Reading.{Answer, found, stopped, prepend, altered_answer, Step, more, ends, go_on}
-use Rattle.ini_text.specs.Inside.Scans.{run_of, skipped}
+use Rattle.ini_text.specs.Inside.Scans.{is_line_part, run_of, skipped}
 use Rattle.ini_text.specs.Inside.StringReader.{as_step}
-use Rattle.ini_text.specs.Inside.PlainTests.{begins}
-use Rattle.ini_text.specs.Inside.ValueReader.{past_cr, after_end, after_note, empty_cr, after_line, indented_line, is_line_part, row, more_lines, multiline_value, value}
+use Rattle.ini_text.specs.Inside.ValueReader.{past_cr, after_end, after_note, empty_cr, after_line, indented_line, row, more_lines, multiline_value, value}
 use Rattle.ini_text.proofs.GrammarLemmas.KindLemmas.{blank_inline}
 use Rattle.ini_text.proofs.ReaderLemmas.ReaderLemmas.{Says, IsReader, StepSays, prefixed, turn, reads}
 use Rattle.ini_text.proofs.ReaderLemmas.LineReaderLemmas.{LineSays, line-reads}
-use Rattle.ini_text.proofs.ReaderLemmas.NoteLemmas.{no_note, note_read, other_text, past_mark, some_note}
+use Rattle.ini_text.proofs.ReaderLemmas.NoteLemmas.{LineTail-closes, no_note, note_read, other_text, past_mark, some_note}
 use Rattle.ini_text.proofs.ReaderLemmas.RunReaderLemmas.{BeginsWith-some, run-finds, run-sound}
 
 -- a line end, and what follows it
@@ -65,13 +63,9 @@ line_end-some LineEnd.lf = omega arith
 line_end-some LineEnd.cr_lf = omega arith
 line_end-some (LineEnd.cr n) = omega arith
 
-Str-closes : {e : Backslash} {s r v : List ℕ} → Str e plain_ends s r v → Closes plain_ends r
-Str-closes (Str.closed k h) = h
-Str-closes (Str.lone sp k h) = h
-
 pub Line-closes : {o : ParseOption} {first : Bool} {s r v : List ℕ} → Line o first s r v
     → Closes plain_ends r
-Line-closes (Line.line k plain str) = Str-closes str
+Line-closes (Line.line ln tail) = LineTail-closes tail
 
 -- a line of lead w and source l, with the value u, before its line end e and then r
 pub record EndedLine (o : ParseOption) (first : Bool) (w l e r u : List ℕ) : Type 0 where
@@ -242,7 +236,8 @@ module _ (o : ParseOption) where
           let split = run-sound is_inline_white cs in
           let rest = skipped is_inline_white cs in
           let w = c ∷ run_of is_inline_white cs in
-          let lead : Lead w rest = record { white = rw (blank_inline c b, split.all) refl; ends = split.ends } in
+          let lead : Lead w rest =
+          record { white = rw (blank_inline c b, split.all) refl; ends = split.ends } in
           subst (λ y. RowSays (c ∷ y) (indented_line o rest (after_note o rest))) split.whole
           (elim (cases_Bool (begins (begins_note o) rest)) [
             | inl h ↦

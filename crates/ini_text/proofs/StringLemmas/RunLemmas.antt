@@ -12,7 +12,10 @@ use Rattle.ini_text.specs.Inside.Scans.{is_raw, skipped}
 use Rattle.ini_text.specs.Inside.Endpoints.{ends_of}
 use Rattle.ini_text.specs.Grammar.CharacterKinds.{is_line_feed, BeginsWithNo}
 use Rattle.ini_text.proofs.ReaderLemmas.RunReaderLemmas.{run-finds}
-use Rattle.ini_text.specs.declared.option.LoneLine.TheVariants.{RunsOn, Refused}
+use Rattle.ini_text.specs.Grammar.Strings.{key_ends}
+use Rattle.ini_text.specs.declared.option.LoneLine.{LoneLine}
+use Rattle.ini_text.specs.declared.option.LoneLine.TheVariants as lines
+use Rattle.ini_text.specs.declared.option.ParseOption.{ParseOption}
 use Rattle.ini_text.specs.declared.parser.endpoints.Endpoints.{Endpoints}
 use Rattle.ini_text.specs.declared.parser.endpoints.Endpoints.TheVariants.{Name, BracketedName, Key, DoubleQuotes, SingleQuotes, Plain}
 
@@ -88,14 +91,18 @@ run_stops p bs back n wide u e k =
           subst (BeginsWithNo p) (sym (ap chars (k' ∙ drop_all (prefix_len p bs) bs past) ∙ chars-nil)) tt
     ]
 
-pub raw_wide : (ends : Endpoints) (c : ℕ) → 128 ≤ c → is_raw (ends_of ends) c ≡ true
-raw_wide Name c l = grind (arith, nat_tests)
-raw_wide BracketedName c l = grind (arith, nat_tests)
-raw_wide (Key RunsOn) c l = grind (arith, nat_tests)
-raw_wide (Key Refused) c l = grind (arith, nat_tests)
-raw_wide DoubleQuotes c l = grind (arith, nat_tests)
-raw_wide SingleQuotes c l = grind (arith, nat_tests)
-raw_wide Plain c l = grind (arith, nat_tests)
+key_wide : (line : LoneLine) (c : ℕ) → 128 ≤ c → is_raw (key_ends line) c ≡ true
+key_wide lines.RunsOn c l = grind (arith, nat_tests)
+key_wide lines.Refused c l = grind (arith, nat_tests)
+key_wide lines.Key c l = grind (arith, nat_tests)
+
+pub raw_wide : (o : ParseOption) (ends : Endpoints) (c : ℕ) → 128 ≤ c → is_raw (ends_of o ends) c ≡ true
+raw_wide o Name c l = grind (arith, nat_tests)
+raw_wide o BracketedName c l = grind (arith, nat_tests)
+raw_wide o Key c l = key_wide o.line_without_separator c l
+raw_wide o DoubleQuotes c l = grind (arith, nat_tests)
+raw_wide o SingleQuotes c l = grind (arith, nat_tests)
+raw_wide o Plain c l = grind (arith, nat_tests)
 
 pub line_feed_narrow : (c : ℕ) → 128 ≤ c → not (is_line_feed c) ≡ true
 line_feed_narrow c l = grind (arith, nat_tests)

@@ -11,6 +11,7 @@ use Rattle.ini_text.specs.declared.option.ParseOption.{ParseOption}
 use Rattle.ini_text.specs.declared.write.policy.EscapePolicy.{EscapePolicy}
 use Rattle.ini_text.specs.declared.write.policy.EscapePolicy.TheVariants.{Nothing, Basics, Reserved, Everything}
 use Rattle.ini_text.proofs.PlainLemmas.EscapedTextLemmas.{basic-escaped}
+use Rattle.ini_text.proofs.Worked.WorkedNotes.{with_notes}
 
 -- Where escapes are on and the policy isn't `Nothing`, a text that has no escapes and needs none is one
 -- whose escapes are read: so the two ways to be read back never mix in one document.
@@ -103,6 +104,7 @@ backslashes_that_stay : IsPlainValue with_raw_backslashes Nothing (codes "C:\\x\
 backslashes_that_stay = record {
   is_trimmed = refl;
   no_quote_mark = λ on. refl;
+  no_note = λ on. absurd (false≢true on);
   read_back = record {
     of_characters = refl;
     is_read = inr (record { no_escaped = refl; no_backslash = refl });
@@ -120,6 +122,7 @@ bracketed_name : IsPlainName (record default_parse_option { enabled_brackets_in_
 bracketed_name = record {
   is_trimmed = refl;
   no_bracket = λ off. absurd (true≢false off);
+  no_note = λ on noted. absurd (false≢true noted);
   read_back = record {
     of_characters = refl;
     is_read = inr (record { no_escaped = refl; no_backslash = refl });
@@ -144,9 +147,50 @@ marks_without_quotes : IsPlainValue without_quotes Basics (codes "\"a\"")
 marks_without_quotes = record {
   is_trimmed = refl;
   no_quote_mark = λ on. absurd (false≢true on);
+  no_note = λ on. absurd (false≢true on);
   read_back = record {
     of_characters = refl;
     is_read = inr (record { no_escaped = refl; no_backslash = refl });
+  };
+}
+
+-- with inline comments on, a mark stands behind a blank only where it is escaped
+note : ¬ IsPlainValue with_notes Basics (codes "v ;")
+note v = true≢false (v.no_note refl)
+
+escaped_note : IsPlainValue with_notes Reserved (codes "v ;")
+escaped_note = record {
+  is_trimmed = refl;
+  no_quote_mark = λ on. refl;
+  no_note = λ on. refl;
+  read_back = record {
+    of_characters = refl;
+    is_read = inl (record {
+      escapes = refl;
+      escaping = λ e. cc;
+      no_unread_letter = refl;
+      no_extended = refl;
+    });
+  };
+}
+
+-- behind a tab too, unless that is escaped
+note_after_tab : ¬ IsPlainValue with_notes Nothing (codes "v\t;")
+note_after_tab v = true≢false (v.no_note refl)
+
+mark_after_escape : IsPlainValue with_notes Basics (codes "v\t;")
+mark_after_escape = record {
+  is_trimmed = refl;
+  no_quote_mark = λ on. refl;
+  no_note = λ on. refl;
+  read_back = record {
+    of_characters = refl;
+    is_read = inl (record {
+      escapes = refl;
+      escaping = λ e. cc;
+      no_unread_letter = refl;
+      no_extended = refl;
+    });
   };
 }
 

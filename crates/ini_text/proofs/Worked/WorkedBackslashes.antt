@@ -5,13 +5,13 @@ use Rattle.std.specs.Prelude.{codes}
 use Rattle.ini_text.specs.Options.ReadOptions.{default_parse_option, with_raw_backslashes}
 use Rattle.ini_text.specs.Grammar.EscapeSequences.{EscapeSequence}
 use Rattle.ini_text.specs.Grammar.Strings.{Row, Str, StrStops}
-use Rattle.ini_text.specs.Grammar.Lines.{Quoted, Line}
+use Rattle.ini_text.specs.Grammar.Lines.{Quoted}
 use Rattle.ini_text.specs.Grammar.Keys.{KeyFront}
 use Rattle.ini_text.specs.Grammar.Elements.{Element, ElementStops}
 use Rattle.ini_text.specs.Grammar.Elements.Given.{Pair}
 use Rattle.ini_text.specs.Grammar.Texts.{Derives}
 use Rattle.ini_text.specs.declared.error.ParseKind.TheVariants.{EndOfText}
-use Rattle.ini_text.proofs.Worked.DerivationLemmas.{derives, characters, raws, raws_before, raw_string, one_line, pair_of, plain_pair, unquoted_line, not_empty, white}
+use Rattle.ini_text.proofs.Worked.DerivationLemmas.{derives, characters, raws, raws_before, one_line, pair_of, plain_pair, unquoted_line, whole_line, not_empty, white}
 use Rattle.ini_text.proofs.Worked.DerivationLemmas.RestGives.{whole, skip, give}
 use Rattle.ini_text.proofs.Worked.DerivationLemmas.RestStops.{stop, past}
 use Rattle.ini_text.proofs.Worked.WorkedRefusals.{StopsAt, stops_at}
@@ -36,9 +36,9 @@ key_with_a_last_backslash = derives (
 pub quoted_part_with_a_last_backslash : Derives with_raw_backslashes (codes "k=\"a\\\"b\"\n")
     (Pair (codes "k") (codes "a\\b\"") ∷ [])
 quoted_part_with_a_last_backslash = derives (
-    give (pair_of (codes "k") refl refl (one_line refl refl (Line.line
+    give (pair_of (codes "k") refl refl (one_line refl refl (whole_line
     (Quoted.part refl refl (Str.closed (characters (codes "a\\") refl) refl) Quoted.none)
-    (λ _. refl) (raw_string (codes "b\"") refl)))) (skip (white refl) whole))
+    (λ _. refl) (raws (codes "b\"") refl) refl))) (skip (white refl) whole))
 
 -- A bracket behind a backslash ends a name, and the rest of the line begins a key that the text's end cuts.
 pub name_with_a_last_backslash : StopsAt with_raw_backslashes (codes "[a\\]b]\n") EndOfText 2 1

@@ -7,7 +7,7 @@ use Rattle.ini_text.specs.Grammar.Keys.{KeyFront}
 use Rattle.ini_text.specs.Grammar.Strings.{Row, Str}
 use Rattle.ini_text.specs.Grammar.Lines.{Note}
 use Rattle.ini_text.specs.Grammar.Values.{CommentLine, LineEnd, MoreLines, MoreLinesStop, Value, ValueStops}
-use Rattle.ini_text.specs.Grammar.Elements.{Element, Gap}
+use Rattle.ini_text.specs.Grammar.Elements.{Element}
 use Rattle.ini_text.specs.Grammar.Elements.Given.{Pair}
 use Rattle.ini_text.specs.Grammar.Texts.{Derives}
 use Rattle.ini_text.specs.declared.option.ParseOption.{ParseOption}
@@ -26,7 +26,8 @@ with_comments_and_lines = record with_comments { enabled_indented_mutiline_value
 -- Blanks and a mark begin a comment, which ends before its line's end.
 pub indented : Derives with_comments (codes "  ; c\nk=v\n") (Pair (codes "k") (codes "v") ∷ [])
 indented = derives (
-    skip (Element.indented_comment {w = codes "  "} refl (indentation _ _ refl) (Note.note {s = codes " c"} refl refl refl)) (
+    skip (Element.indented_comment {w = codes "  "} refl (indentation _ _ refl)
+    (Note.note {s = codes " c"} refl refl refl)) (
     skip (white refl) (give (plain_pair (codes "k") (codes "v") refl) (skip (white refl) whole))))
 
 -- So does a tab, and the text's end ends a comment.
@@ -40,7 +41,7 @@ pub behind_cr : Derives with_comments (codes "k=v\r# c\rj=w\n")
     (Pair (codes "k") (codes "v") ∷ Pair (codes "j") (codes "w") ∷ [])
 behind_cr = derives (
     give (plain_pair (codes "k") (codes "v") refl) (skip (white refl) (
-    skip (Element.comment_after_cr refl refl refl (Note.note {s = codes " c"} refl refl refl)) (
+    skip (Element.note refl refl (Note.note {s = codes " c"} refl refl refl)) (
     skip (white refl) (give (plain_pair (codes "j") (codes "w") refl) (skip (white refl) whole))))))
 
 -- A backslash keeps a mark in a key.
@@ -48,7 +49,8 @@ pub escaped_mark : Derives with_comments (codes "  \\;a=b\n") (Pair (codes ";a")
 escaped_mark = derives (
     give (Element.pair (KeyFront.indented {w = codes "  "} (indentation _ _ refl) refl
     (Str.closed (Row.escape refl (EscapeSequence.itself refl (differs refl) (differs refl) refl)
-    (raws (codes "a") refl)) refl)) (not_empty refl) refl (one_line refl refl (plain_line (codes "b") refl))) (
+    (raws (codes "a") refl)) refl)) (not_empty refl) refl
+    (one_line refl refl (plain_line (codes "b") refl))) (
     skip (white refl) whole))
 
 -- Among a value's lines a comment gives nothing, not even a line feed.

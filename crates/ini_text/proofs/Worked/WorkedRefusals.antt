@@ -1,7 +1,6 @@
 -- Worked refusals: where reading written-out texts stops, and with which kind, by the grammar alone.
 use Rattle.std.proofs.Common.{◌≡◌, ℕ, List, [], refl, arith}
 use Rattle.std.specs.Prelude.{codes}
-use Rattle.std.proofs.lemmas.Bool.{false≢true}
 use Rattle.ini_text.specs.Options.ReadOptions.{default_parse_option}
 use Rattle.ini_text.specs.Grammar.EscapeSequences.{Units, EscapeStops, spelled}
 use Rattle.ini_text.specs.Grammar.Strings.{Row, StrStops}
@@ -56,7 +55,7 @@ surrogate =
 pub comment_after_cr : StopsAt default_parse_option (codes "k=v\r# c\n") InlineComment 1 6
 comment_after_cr = stops_at
     (past (plain_pair (codes "k") (codes "v") refl)
-    (past (white refl) (stop (ElementStops.late_comment refl refl (λ on. absurd (false≢true on)))))) refl refl
+    (past (white refl) (stop (ElementStops.late_comment refl refl refl)))) refl refl
 
 -- A separator stands without a key.
 pub missing_key : StopsAt default_parse_option (codes "=v") MissingKey 1 2

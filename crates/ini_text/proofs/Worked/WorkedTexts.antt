@@ -9,13 +9,13 @@ use Rattle.ini_text.specs.Options.ReadOptions.{default_parse_option, without_esc
 use Rattle.ini_text.specs.Grammar.CharacterKinds.{backslash, line_feed, letter_x}
 use Rattle.ini_text.specs.Grammar.EscapeSequences.{control, EscapeSequence}
 use Rattle.ini_text.specs.Grammar.Strings.{Ends, Row, StrStops}
-use Rattle.ini_text.specs.Grammar.Lines.{Quoted, Line}
+use Rattle.ini_text.specs.Grammar.Lines.{Quoted}
 use Rattle.ini_text.specs.Grammar.Values.{LineEnd, MoreLines, Value}
 use Rattle.ini_text.specs.Grammar.Elements.{Element}
 use Rattle.ini_text.specs.Grammar.Elements.Given.{Header, Pair}
 use Rattle.ini_text.specs.Grammar.Texts.{Derives}
 use Rattle.ini_text.specs.declared.option.ParseOption.{ParseOption}
-use Rattle.ini_text.proofs.Worked.DerivationLemmas.{derives, differs, one_line, pair_of, plain_pair, plain_header, white, not_empty, raws, raws_before, plain_key, pair_after_blanks, plain_line, unquoted_line, raw_string, quoted, lead, indentation, goes_on}
+use Rattle.ini_text.proofs.Worked.DerivationLemmas.{derives, differs, one_line, pair_of, plain_pair, plain_header, white, not_empty, raws, raws_before, plain_key, pair_after_blanks, plain_line, unquoted_line, whole_line, quoted, lead, indentation, goes_on}
 use Rattle.ini_text.proofs.Worked.DerivationLemmas.RestGives.{whole, skip, give}
 
 -- The options that differ from the default in one field; `without_escapes` is another.
@@ -77,9 +77,9 @@ trimmed_keys_and_values = derives (
 -- with.
 pub quoted_and_plain_parts : Derives default_parse_option (codes "k=\"a\"\"b\" c")
     (Pair (codes "k") (codes "ab c") ∷ [])
-quoted_and_plain_parts = derives (give (pair_of (codes "k") refl refl (one_line refl refl (Line.line
+quoted_and_plain_parts = derives (give (pair_of (codes "k") refl refl (one_line refl refl (whole_line
     (quoted (codes "a") refl refl (quoted (codes "b") refl refl Quoted.none)) (λ _. refl)
-    (raw_string (codes " c") refl)))) whole)
+    (raws (codes " c") refl) refl))) whole)
 
 -- The six escapes of one letter or digit. Before any other character the backslash goes, and before another
 -- backslash one stays.
@@ -125,7 +125,7 @@ comment_past_cr = derives (skip (Element.last_comment {s = codes " c\rk=v"} refl
 -- Without quotes a mark is a character like others.
 pub marks_without_quotes : Derives without_quotes (codes "k=\"a\"") (Pair (codes "k") (codes "\"a\"") ∷ [])
 marks_without_quotes = derives (give (pair_of (codes "k") refl refl (one_line refl refl
-    (Line.line Quoted.none (λ on. absurd (false≢true on)) (raw_string (codes "\"a\"") refl)))) whole)
+    (whole_line Quoted.none (λ on. absurd (false≢true on)) (raws (codes "\"a\"") refl) refl))) whole)
 
 -- Multiline values among other items. The lines are trimmed. Empty lines stay within a value, and go at its
 -- ends.

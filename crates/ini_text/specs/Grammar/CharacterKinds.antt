@@ -76,6 +76,10 @@ abbrev pub is_comment_mark : ℕ → Bool
 is_comment_mark c = c == semicolon || c == hash
 
 -- the text has a first character, and it passes the test
+abbrev pub begins : (ℕ → Bool) → List ℕ → Bool
+begins test [] = false
+begins test (c ∷ cs) = test c
+
 abbrev pub BeginsWith : (ℕ → Bool) → List ℕ → Type 0
 BeginsWith test [] = true ≡ false
 BeginsWith test (c ∷ cs) = test c ≡ true

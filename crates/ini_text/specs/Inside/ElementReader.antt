@@ -4,16 +4,16 @@ use Rattle.std.specs.Prelude.{Some, None}
 use Rattle.std.specs.Char.{is_whitespace}
 use Rattle.std.specs.List.{list_all}
 use Rattle.ini_text.specs.Grammar.CharacterKinds.{open_bracket, close_bracket, is_line_feed, is_line_end}
-use Rattle.ini_text.specs.Grammar.CharacterKinds.{is_blank, is_comment_mark}
-use Rattle.ini_text.specs.Grammar.Elements.{Given, Header, Pair}
+use Rattle.ini_text.specs.Grammar.CharacterKinds.{is_blank, is_comment_mark, is_separator}
+use Rattle.ini_text.specs.Grammar.Elements.{Given, Header, Pair, may_have_note}
 use Rattle.ini_text.specs.Grammar.Keys.{begins_note}
 use Rattle.ini_text.specs.Grammar.Positions.{starts_line, is_column_one}
-use Rattle.ini_text.specs.Grammar.Strings.{name_ends, bracketed_name_ends, key_ends}
+use Rattle.ini_text.specs.Grammar.Strings.{name_ends, bracketed_name_ends, noted, noted_key_ends}
 use Rattle.ini_text.specs.Grammar.WhiteSpace.{trimmed}
 use Rattle.ini_text.specs.Inside.Reading.{Answer, found, stopped, prepend, altered_answer}
-use Rattle.ini_text.specs.Inside.Scans.{run_of, skipped, trimmed_at}
+use Rattle.ini_text.specs.Inside.Scans.{is_line_part, run_of, skipped, trimmed_at}
 use Rattle.ini_text.specs.Inside.StringReader.{string}
-use Rattle.ini_text.specs.Inside.ValueReader.{is_line_part, value}
+use Rattle.ini_text.specs.Inside.ValueReader.{value}
 use Rattle.ini_text.specs.Parsing.Items.{borrowed_item_of}
 use Rattle.ini_text.specs.Options.ReadOptions.{backslash_of}
 use Rattle.ini_text.specs.declared.error.ParseKind.{ParseKind}
@@ -21,7 +21,7 @@ use Rattle.ini_text.specs.declared.error.ParseKind.TheVariants.{EndOfText, Heade
 use Rattle.ini_text.specs.declared.error.ParseKind.TheVariants.{MissingKey, NoSeparator}
 use Rattle.ini_text.specs.declared.item.BorrowedItem.{BorrowedItem}
 use Rattle.ini_text.specs.declared.option.LoneLine.{LoneLine}
-use Rattle.ini_text.specs.declared.option.LoneLine.TheVariants.{RunsOn}
+use Rattle.ini_text.specs.declared.option.LoneLine.TheVariants.{RunsOn, Key}
 use Rattle.ini_text.specs.declared.option.ParseOption.{ParseOption}
 
 -- one item or none
@@ -56,7 +56,7 @@ bracketed_header (stopped r k) = stopped r k
 abbrev pub after_bracket : ParseOption → List ℕ → Answer Given
 after_bracket o cs =
     if o.enabled_brackets_in_section_names
-    then bracketed_header (string (backslash_of o) bracketed_name_ends cs)
+    then bracketed_header (string (backslash_of o) (noted o bracketed_name_ends) cs)
     else header (altered_answer (trimmed_at true) (string (backslash_of o) name_ends cs))
 
 abbrev pub pair_of_value : List ℕ → Answer ℕ → Answer Given
@@ -71,10 +71,18 @@ after_separator o (c ∷ key) r = pair_of_value (c ∷ key) (value o r)
 abbrev pub trimmed_key : ParseOption → Answer ℕ → Answer ℕ
 trimmed_key o a = altered_answer (trimmed_at (not o.enabled_preserve_key_leading_whitespace)) a
 
+-- a key alone before r
+abbrev pub lone_key : LoneLine → List ℕ → List ℕ → Answer Given
+lone_key Key [] [] = stopped [] EndOfText
+lone_key Key [] (c ∷ r) = stopped r MissingKey
+lone_key Key (k ∷ key) r = found (Pair (k ∷ key) [] ∷ []) r
+lone_key line key r = stopped (drop 1 r) NoSeparator
+
 -- after a key, from the character on that ends it
 abbrev pub after_key : ParseOption → List ℕ → List ℕ → Answer Given
-after_key o key [] = found [] []
-after_key o key (c ∷ r) = if is_line_end c then stopped r NoSeparator else after_separator o key r
+after_key o key [] = lone_key o.line_without_separator key []
+after_key o key (c ∷ r) =
+    if is_separator c then after_separator o key r else lone_key o.line_without_separator key (c ∷ r)
 
 abbrev pub pair_of_key : ParseOption → Answer ℕ → Answer Given
 pair_of_key o (found key r) = after_key o key r
@@ -82,7 +90,7 @@ pair_of_key o (stopped r k) = stopped r k
 
 -- a key up to what ends it
 abbrev pub key_string : ParseOption → List ℕ → Answer ℕ
-key_string o t = string (backslash_of o) (key_ends o.line_without_separator) t
+key_string o t = string (backslash_of o) (noted_key_ends o) t
 
 abbrev pub unindented_pair : ParseOption → List ℕ → Answer Given
 unindented_pair o t = pair_of_key o (trimmed_key o (key_string o t))
@@ -111,7 +119,7 @@ is_comment_part c = not (is_line_feed c)
 abbrev pub after_mark : ParseOption → List ℕ → List ℕ → Answer Given
 after_mark o b cs =
     if is_column_one b then found [] (drop 1 (skipped is_comment_part cs))
-    else if o.enabled_indented_comment && starts_line b then found [] (skipped is_line_part cs)
+    else if may_have_note o b then found [] (skipped is_line_part cs)
     else stopped cs InlineComment
 
 -- after the blanks w at a line's start

@@ -1,17 +1,21 @@
 -- How the places of a pair are found in a text of which it is known what it gives.
-use Rattle.std.specs.Prelude.{◌≡◌, ℕ, true, List, [], ◌∷◌, ◌++◌, drop, ⊤, chars, Option, Some, Result, MatchOption}
+use Rattle.std.specs.Prelude.{◌≡◌, ℕ, true, List, [], ◌∷◌, ◌++◌, drop, ⊤, chars, Option, Some}
+use Rattle.std.specs.Prelude.{Result, MatchOption}
 use Rattle.std.specs.Prelude.{IfOk, MatchResult}
 use Rattle.std.specs.Borrow.{Bor}
 use Rattle.std.specs.List.{list_all}
-use Rattle.ini_text.specs.Grammar.CharacterKinds.{is_blank, is_inline_white, is_line_feed}
+use Rattle.ini_text.specs.Grammar.CharacterKinds.{is_blank, is_inline_white, is_line_feed, is_separator}
+use Rattle.ini_text.specs.Grammar.CharacterKinds.{BeginsWith, BeginsWithNo}
 use Rattle.ini_text.specs.Grammar.Elements.{Pair, Element}
 use Rattle.ini_text.specs.Grammar.Places.{LastLine, OwnLines, SpaceAfter, TrailingLines, ArePlaced, pair_source}
+use Rattle.ini_text.specs.Grammar.Lines.{LineTail}
 use Rattle.ini_text.specs.Grammar.Values.{LineEnd, MoreLines}
 use Rattle.ini_text.specs.Grammar.WhiteSpace.{without_outer_line_feeds}
 use Rattle.ini_text.specs.Inside.ItemSearch.{StopIsWithin}
 use Rattle.ini_text.specs.Inside.Reading.{found, prepend, altered_answer}
 use Rattle.ini_text.specs.Inside.Scans.{skipped}
 use Rattle.ini_text.specs.Inside.ElementReader.{key_string}
+use Rattle.ini_text.specs.Inside.LineReader.{past_note}
 use Rattle.ini_text.specs.Inside.ValueReader.{more_lines, value}
 use Rattle.ini_text.specs.Parsing.Fronts.{front_of, IsRest}
 use Rattle.ini_text.specs.Parsing.Parser.{TellsRefusal, refusal_of}
@@ -29,28 +33,34 @@ use Rattle.std.specs.declared.borrow.CowStr.{CowStr}
 use Rattle.ini_text.specs.declared.parser.placed.PairPlaces.{PairPlaces}
 use Rattle.ini_text.specs.declared.parser.placed.PlacedElement.{PlacedElement}
 
--- Of the value after a separator, which is `gives`, its own lines begin at `start`, and end at `tail`; `rest`
--- follows it.
+-- Of the value after a separator, which is `gives`, its own lines begin at `start`, and their text ends at
+-- `tail`; `rest` follows the value.
 pub record HasTail (o : ParseOption) (text start tail gives rest : List ℕ) : Type 0 where
   pub own : List ℕ
+  pub note : List ℕ
   pub following : List ℕ
   pub skips : start ≡ skipped is_inline_white text
   pub own_is : start ≡ own ++ tail
-  pub tail_is : tail ≡ following ++ rest
+  pub tail_is : tail ≡ note ++ (following ++ rest)
+  pub past_note : past_note o tail ≡ following ++ rest
   pub reads : value o text ≡ found gives rest
   pub own_lines : OwnLines o own tail
+  pub is_note : LineTail note (following ++ rest)
   pub is_tail : TrailingLines o following rest
 
--- Of a value the own lines are known up to `tail`, and the lines after them, which give nothing, up to
--- `rest`. So far they give `given`.
+-- Of a value the text of its own lines is known up to `tail`, and the lines after them, which give nothing,
+-- up to `rest`. So far they give `given`.
 pub record TailSoFar (o : ParseOption) (text start tail rest given : List ℕ) : Type 0 where
   pub before : List ℕ
   pub own : List ℕ
+  pub note : List ℕ
   pub end : List ℕ
   pub lines : List ℕ
   pub start_is : start ≡ before ++ rest
   pub own_is : start ≡ own ++ tail
-  pub tail_is : tail ≡ end ++ (lines ++ rest)
+  pub tail_is : tail ≡ note ++ (end ++ (lines ++ rest))
+  pub past_note : past_note o tail ≡ end ++ (lines ++ rest)
+  pub is_note : LineTail note (end ++ (lines ++ rest))
   pub own_lines : OwnLines o own tail
   pub ends : LineEnd end (lines ++ rest)
   pub reads : value o text ≡ altered_answer without_outer_line_feeds (prepend given (more_lines o rest))
@@ -64,12 +74,17 @@ HasLines o text rests r =
     IfOk r (λ p. HasTail o text (chars rests.start.now) (chars rests.tail.now) (cow_text p.0)
     (chars p.1.now))
 
--- a pair was read at the front of a text: after the blanks of its key a string ends before `after_key`, and
--- the value's own lines stand between `start` and `tail`
+-- after a key the value's own lines stand between `start` and `tail`; or the key stands alone
+pub data ReadsAfterKey (o : ParseOption) (after_key start tail gives rest : List ℕ) : Type 0 where
+  with_value : BeginsWith is_separator after_key → HasTail o (drop 1 after_key) start tail gives rest
+      → ReadsAfterKey o after_key start tail gives rest
+  alone : BeginsWithNo is_separator after_key → ReadsAfterKey o after_key start tail gives rest
+
+-- a pair was read at the front of a text: after the blanks of its key a string ends before `after_key`
 pub record ReadsPair (o : ParseOption) (text after_key start tail gives rest : List ℕ) : Type 0 where
   pub key : List ℕ
   pub key_is : key_string o (skipped is_blank text) ≡ found key after_key
-  pub value_is : HasTail o (drop 1 after_key) start tail gives rest
+  pub after_key_is : ReadsAfterKey o after_key start tail gives rest
 
 -- where the value stands that was read
 abbrev pub HasRestsOf : ParseOption → List ℕ → Rests → List ℕ → List ℕ → Type 0
@@ -85,7 +100,7 @@ HasRests o text rests _ rest = ⊤
 abbrev pub HasValueRests : ParseOption → List ℕ → Rests → Option BorrowedItem → List ℕ → Type 0
 HasValueRests o after_key rests (Some (items.Pair key value)) rest =
     (chars rests.after_key.now ≡ after_key)
-    × HasTail o (drop 1 after_key) (chars rests.start.now) (chars rests.tail.now) (cow_text value) rest
+    × ReadsAfterKey o after_key (chars rests.start.now) (chars rests.tail.now) (cow_text value) rest
 HasValueRests o after_key rests _ rest = ⊤
 
 -- no pair was read

@@ -3,11 +3,12 @@ use Rattle.std.specs.Prelude.{ℕ, Bool, true, false, not, ◌&&◌, ◌||◌, �
 use Rattle.std.specs.Char.{is_whitespace}
 use Rattle.std.specs.List.{list_all}
 use Rattle.std.specs.Str.{bytes_eq}
-use Rattle.ini_text.specs.Grammar.CharacterKinds.{close_bracket, open_bracket, space, is_blank}
+use Rattle.ini_text.specs.Grammar.CharacterKinds.{begins, close_bracket, open_bracket, space, is_blank}
 use Rattle.ini_text.specs.Grammar.CharacterKinds.{is_comment_mark, is_line_end, is_quote_mark, is_separator}
 use Rattle.ini_text.specs.Options.Backslashes.{begins_escape}
 use Rattle.ini_text.specs.Options.ReadOptions.{backslash_of}
-use Rattle.ini_text.specs.Laws.Plain.{has_unread_letter}
+use Rattle.ini_text.specs.Grammar.Strings.{ends_with_line}
+use Rattle.ini_text.specs.Laws.Plain.{has_bare_note, has_unread_letter}
 use Rattle.ini_text.specs.Escaping.Policies.{is_escaped, is_extended}
 use Rattle.ini_text.specs.Inside.Scans.{skipped}
 use Rattle.ini_text.specs.Grammar.WhiteSpace.{trimmed, end_trimmed}
@@ -18,11 +19,6 @@ use Rattle.ini_text.specs.declared.write.policy.EscapePolicy.TheVariants.{Basics
 use Rattle.ini_text.specs.declared.write.policy.EscapePolicy.TheVariants.{ReservedUnicode}
 use Rattle.ini_text.specs.declared.write.policy.EscapePolicy.TheVariants.{ReservedUnicodeExtended}
 use Rattle.ini_text.specs.declared.write.policy.EscapePolicy.TheVariants.{Everything}
-
--- the text has a first character, and it passes the test
-abbrev pub begins : (ℕ → Bool) → List ℕ → Bool
-begins test [] = false
-begins test (c ∷ cs) = test c
 
 -- white space stands at neither end
 abbrev pub is_trimmed : List ℕ → Bool
@@ -71,10 +67,18 @@ is_read_back o policy text = has_read_escapes o policy text || has_no_escapes o 
 abbrev pub has_no_close_bracket : List ℕ → Bool
 has_no_close_bracket name = list_all (λ c. not (c == close_bracket)) name
 
+-- inline comments are on, and the text has a note
+abbrev pub has_note : ParseOption → EscapePolicy → List ℕ → Bool
+has_note o policy text = o.enabled_inline_comment && has_bare_note policy text
+
+-- no bracket ends the name, or, where brackets may stand in it, no note
+abbrev pub has_no_name_end : ParseOption → EscapePolicy → List ℕ → Bool
+has_no_name_end o policy name =
+    if o.enabled_brackets_in_section_names then not (has_note o policy name) else has_no_close_bracket name
+
 abbrev pub is_plain_name : ParseOption → EscapePolicy → List ℕ → Bool
 is_plain_name o policy name =
-    is_trimmed name && ((o.enabled_brackets_in_section_names || has_no_close_bracket name)
-    && is_read_back o policy name)
+    is_trimmed name && (has_no_name_end o policy name && is_read_back o policy name)
 
 abbrev pub is_indented_by_escape : ParseOption → EscapePolicy → List ℕ → Bool
 is_indented_by_escape o policy key =
@@ -105,8 +109,15 @@ is_plain_key o policy key =
 abbrev pub is_plain_value : ParseOption → EscapePolicy → List ℕ → Bool
 is_plain_value o policy value =
     is_trimmed value
-    && ((not o.enabled_quote || not (begins is_quote_mark value)) && is_read_back o policy value)
+    && ((not o.enabled_quote || not (begins is_quote_mark value))
+    && (not (has_note o policy value) && is_read_back o policy value))
+
+-- where keys end before notes, the key has one
+abbrev pub has_key_note : ParseOption → EscapePolicy → List ℕ → Bool
+has_key_note o policy key = ends_with_line o.line_without_separator && has_note o policy key
 
 abbrev pub is_plain_pair : ParseOption → EscapePolicy → List ℕ → List ℕ → Bool
 is_plain_pair o policy key value =
-    is_plain_key o policy key && (is_read_back o policy key && is_plain_value o policy value)
+    is_plain_key o policy key
+    && (not (has_key_note o policy key)
+    && (is_read_back o policy key && is_plain_value o policy value))

@@ -4,7 +4,7 @@ use Rattle.std.specs.Prelude.{Some, None, unwrap_or}
 use Rattle.ini_text.specs.Grammar.CharacterKinds.{backslash, letter_x, line_feed}
 use Rattle.ini_text.specs.Grammar.EscapeSequences.{control, spelled_by}
 use Rattle.ini_text.specs.Options.Backslashes.{Backslash, reads_escapes, begins_escape}
-use Rattle.ini_text.specs.Grammar.Strings.{Ends, is_endpoint}
+use Rattle.ini_text.specs.Grammar.Strings.{Ends, is_endpoint, is_before_note}
 use Rattle.ini_text.specs.Inside.Reading.{Answer, found, stopped, and_then, Step, more, ends, read_by}
 use Rattle.ini_text.specs.declared.error.ParseKind.TheVariants.{EndOfText, BrokenEscape, UnknownCharacter}
 
@@ -61,6 +61,7 @@ piece b to [] = ends (at_end to [])
 piece b to (c ∷ cs) =
     if begins_escape b c then escape (reads_escapes b) to cs
     else if is_endpoint to c then ends (found [] (c ∷ cs))
+    else if is_before_note to c cs then ends (found (c ∷ []) cs)
     else more (c ∷ []) cs
 
 unfoldable pub string : Backslash → Ends → List ℕ → Answer ℕ

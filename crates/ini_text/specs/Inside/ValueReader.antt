@@ -1,14 +1,13 @@
 -- Reading a value by its first line, and then by steps that each take a line.
-use Rattle.std.specs.Prelude.{ℕ, Bool, not, ◌==◌, true, false, if◌then◌else◌, List, [], ◌∷◌, Option, Some, None}
+use Rattle.std.specs.Prelude.{ℕ, ◌==◌, true, false, if◌then◌else◌, List, [], ◌∷◌, Option, Some, None}
 use Rattle.ini_text.specs.Grammar.CharacterKinds.{line_feed, carriage_return, is_blank, is_inline_white}
-use Rattle.ini_text.specs.Grammar.CharacterKinds.{is_line_end}
+use Rattle.ini_text.specs.Grammar.CharacterKinds.{begins}
 use Rattle.ini_text.specs.Grammar.Keys.{begins_note}
 use Rattle.ini_text.specs.Grammar.WhiteSpace.{without_outer_line_feeds}
 use Rattle.ini_text.specs.Inside.LineReader.{line}
-use Rattle.ini_text.specs.Inside.PlainTests.{begins}
 use Rattle.ini_text.specs.Inside.Reading.{Answer, found, stopped, prepend, altered_answer, Step, more, ends, go_on}
 use Rattle.ini_text.specs.Inside.Reading.{read_by}
-use Rattle.ini_text.specs.Inside.Scans.{skipped}
+use Rattle.ini_text.specs.Inside.Scans.{is_line_part, skipped}
 use Rattle.ini_text.specs.Inside.StringReader.{as_step}
 use Rattle.ini_text.specs.declared.error.ParseKind.TheVariants.{CrAlone}
 use Rattle.ini_text.specs.declared.option.ParseOption.{ParseOption}
@@ -38,10 +37,6 @@ before_end u r (Some next) = more u next
 abbrev pub after_line : Answer ℕ → Step ℕ
 after_line (found u r) = before_end u r (after_end r)
 after_line (stopped r k) = ends (stopped r k)
-
--- a character within a line
-abbrev pub is_line_part : ℕ → Bool
-is_line_part c = not (is_line_end c)
 
 -- what follows the note that begins after the white space of an indented line
 abbrev pub after_note : ParseOption → List ℕ → Option (List ℕ)

@@ -5,7 +5,8 @@ use Rattle.std.specs.List.{list_all}
 use Rattle.std.specs.Str.{all_scalars}
 use Rattle.ini_text.specs.Grammar.CharacterKinds.{close_bracket, open_bracket, space, is_blank}
 use Rattle.ini_text.specs.Grammar.CharacterKinds.{is_comment_mark, is_line_end, is_quote_mark, is_separator}
-use Rattle.ini_text.specs.Grammar.CharacterKinds.{BeginsWith, BeginsWithNo}
+use Rattle.ini_text.specs.Grammar.CharacterKinds.{begins, BeginsWith, BeginsWithNo}
+use Rattle.ini_text.specs.Grammar.Strings.{noted_key_ends}
 use Rattle.ini_text.specs.Options.Backslashes.{begins_escape}
 use Rattle.ini_text.specs.Options.ReadOptions.{backslash_of}
 use Rattle.ini_text.specs.Escaping.Policies.{is_escaped, is_extended}
@@ -58,6 +59,13 @@ pub record IsReadBack (o : ParseOption) (policy : EscapePolicy) (text : List ℕ
   -- its escapes are read, or it has none and needs none
   pub is_read : HasReadEscapes o policy text ⊎ HasNoEscapes o policy text
 
+-- a comment mark that isn't escaped stands in the text behind a blank that isn't
+abbrev pub has_bare_note : EscapePolicy → List ℕ → Bool
+has_bare_note policy [] = false
+has_bare_note policy (c ∷ cs) =
+    is_blank c && not (is_escaped policy c) && begins (λ d. is_comment_mark d && not (is_escaped policy d)) cs
+    || has_bare_note policy cs
+
 -- the name of a section
 pub record IsPlainName (o : ParseOption) (policy : EscapePolicy) (name : List ℕ) : Type 0 where
   -- it is trimmed
@@ -65,6 +73,9 @@ pub record IsPlainName (o : ParseOption) (policy : EscapePolicy) (name : List �
   -- it has no closing bracket, unless brackets may stand in names
   pub no_bracket : o.enabled_brackets_in_section_names ≡ false
       → list_all (λ c. not (c == close_bracket)) name ≡ true
+  -- where brackets may stand in names, and inline comments are on, it has no bare note
+  pub no_note : o.enabled_brackets_in_section_names ≡ true → o.enabled_inline_comment ≡ true
+      → has_bare_note policy name ≡ false
   -- its characters are read back
   pub read_back : IsReadBack o policy name
 
@@ -104,12 +115,16 @@ pub record IsPlainValue (o : ParseOption) (policy : EscapePolicy) (value : List 
   pub is_trimmed : trimmed value ≡ value
   -- with quotes on, no quote's mark begins it
   pub no_quote_mark : o.enabled_quote ≡ true → BeginsWithNo is_quote_mark value
+  -- with inline comments on, it has no bare note
+  pub no_note : o.enabled_inline_comment ≡ true → has_bare_note policy value ≡ false
   -- its characters are read back
   pub read_back : IsReadBack o policy value
 
 -- a key with its value
 pub record IsPlainPair (o : ParseOption) (policy : EscapePolicy) (key value : List ℕ) : Type 0 where
   pub plain_key : IsPlainKey o policy key
+  -- where keys end before notes, it has no bare note
+  pub key_no_note : (noted_key_ends o).notes ≡ true → has_bare_note policy key ≡ false
   -- the key's characters are read back
   pub key_read_back : IsReadBack o policy key
   pub plain_value : IsPlainValue o policy value

@@ -24,6 +24,7 @@ stretches_of p = record {
   space_before = chars p.space_before.now;
   raw_value = chars p.raw_value.now;
   space_after = chars p.space_after.now;
+  note = chars p.note.now;
   trailing_lines = chars p.trailing_lines.now;
 }
 

@@ -56,7 +56,7 @@ pub(crate) fn read_element<'a>(
     read_unindented(alloc, scratch, rests, places, text, read)
 }
 
-// comment = mark *(any but LF) [LF], in column one; with indented comments a note where a line starts besides
+// comment = mark *(any but LF) [LF], in column one; elsewhere a note, where one may stand
 /// A comment after its mark.
 fn read_comment<'a>(
     front: &str,
@@ -69,7 +69,7 @@ fn read_comment<'a>(
     if is_column_one(front) {
         return Ok((None, after_first(skip_line(after))));
     }
-    if read.enabled_indented_comment && starts_line(front) {
+    if read.may_have_note(front) {
         return Ok((None, skip_note(after)));
     }
     Err(Stop::new(

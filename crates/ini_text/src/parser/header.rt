@@ -1,6 +1,6 @@
 //! Headers, with and without brackets in names. This file knows strings, and no element.
 ghost use Rattle.std.specs.Prelude.{◌≡◌, ◌∷◌, [], chars, option_map, IfOk, MatchResult};
-ghost use Rattle.ini_text.specs.Grammar.Strings.{bracketed_name_ends};
+ghost use Rattle.ini_text.specs.Grammar.Strings.{bracketed_name_ends, noted};
 ghost use Rattle.ini_text.specs.Grammar.Elements.{Header};
 ghost use Rattle.ini_text.specs.Inside.ElementReader.{after_bracket, bracketed_header, given};
 ghost use Rattle.ini_text.specs.Inside.ElementReader.{header_of_name, name_in};
@@ -38,8 +38,9 @@ pub(crate) fn read_header<'a>(
     Ok((Some(BorrowedItem::Header(name)), after_first(rest)))
 }
 
-// bracketed-header = "[" name "]" *blank, up to LF or CR
-/// A header after its bracket that goes up to its line's end. Its name is borrowed where it is one run.
+// bracketed-header = "[" name "]" *blank, up to LF, CR or a note
+/// A header after its bracket that goes up to its line's end, or to a note. Its name is borrowed where it is
+/// one run.
 fn read_bracketed_header<'a>(
     alloc: Global,
     scratch: &mut String,
@@ -48,9 +49,9 @@ fn read_bracketed_header<'a>(
 ) -> Result<(Option<BorrowedItem<'a>>, &'a str), Stop<'a>>
     ensures header { IfOk result (λ p. IsHeader p.0) }
     ensures gives { Gives given result
-        (bracketed_header (string (backslash_of read) bracketed_name_ends (chars text.now))) }
+        (bracketed_header (string (backslash_of read) (noted read bracketed_name_ends) (chars text.now))) }
 {
-    if let Some((run, rest)) = split_raw(text, Endpoints::BracketedName) {
+    if let Some((run, rest)) = split_raw(text, read, Endpoints::BracketedName) {
         let name = name_before(run, rest)?;
         return Ok((Some(BorrowedItem::Header(CowStr::Borrowed(name))), rest));
     }

@@ -4,7 +4,7 @@ ghost use Rattle.std.specs.Prelude.{◌≡◌, ℕ, true, chars, drop, IfOk};
 ghost use Rattle.ini_text.specs.Grammar.CharacterKinds.{is_blank};
 ghost use Rattle.ini_text.specs.Inside.ElementReader.{after_blanks, after_key, given};
 ghost use Rattle.ini_text.specs.Inside.ElementReader.{indented_pair_of_key, kept_blanks, key_string};
-ghost use Rattle.ini_text.specs.Inside.ElementReader.{trimmed_key};
+ghost use Rattle.ini_text.specs.Inside.ElementReader.{lone_key, trimmed_key};
 ghost use Rattle.ini_text.specs.Inside.ElementReader.{unindented_pair};
 ghost use Rattle.ini_text.specs.Inside.PlaceReader.{HasRests, HasValueRests, IsHeader};
 ghost use Rattle.ini_text.specs.Inside.Reading.{Answer, Gives, StopsBy, prepend};
@@ -21,7 +21,9 @@ use crate::parser::rests::Rests;
 use crate::parser::string::read_string;
 use crate::parser::trimmed::read_trimmed;
 use crate::parser::value::read_value;
-use crate::text::{Class, front_before, is_line_end, skip, skip_note, split_first, trim};
+use crate::text::{
+    Class, after_first, front_before, is_line_end, is_separator, skip, skip_note, split_first, trim,
+};
 use std::alloc::Global;
 use std::borrow::CowStr;
 
@@ -42,7 +44,7 @@ pub(crate) fn read_unindented<'a>(
         → IfOk result (λ p. HasRests read (chars text.now) rests.new p.0 (chars p.1.now)) }
 {
     let both = !read.enabled_preserve_key_leading_whitespace;
-    let ends = Endpoints::Key(read.line_without_separator);
+    let ends = Endpoints::Key;
     let (key, rest) = read_trimmed(alloc, scratch, text, read, ends, both)?;
     read_pair(alloc, scratch, rests, places, key, rest, read)
 }
@@ -81,7 +83,7 @@ pub(crate) fn read_indented<'a>(
     }
 }
 
-/// An indented key, which stands after its blanks, and what follows it, from its separator on. It is
+/// An indented key, which stands after its blanks, and what follows it, from what ends it on. It is
 /// borrowed where its blanks aren't kept.
 fn read_indented_key<'a>(
     alloc: Global,
@@ -93,7 +95,7 @@ fn read_indented_key<'a>(
     ensures { Gives cow_text result (trimmed_key read (prepend (kept_blanks read (chars blanks.now))
         (key_string read (chars text.now)))) }
 {
-    let ends = Endpoints::Key(read.line_without_separator);
+    let ends = Endpoints::Key;
     if !read.enabled_preserve_key_leading_whitespace {
         return read_trimmed(alloc, scratch, text, read, ends, true);
     }
@@ -113,7 +115,7 @@ fn drop_tail<'a>(
         → StopsBy a stop.entry → Gives given result (indented_pair_of_key o a) }
     ensures nothing { IfOk result (λ p. IsHeader p.0) }
 {
-    if let LoneLine::Refused = line {
+    if !matches!(line, LoneLine::RunsOn) {
         return Err(stop);
     }
     match stop {
@@ -126,7 +128,7 @@ fn drop_tail<'a>(
 }
 
 // separator value, after a key
-/// What follows a key, from what ends it on: a separator, or a line end, which is refused.
+/// What follows a key, from what ends it on: a separator and a value; else the key stands alone.
 #[inline(always)]
 fn read_pair<'a>(
     alloc: Global,
@@ -142,14 +144,12 @@ fn read_pair<'a>(
         → IfOk result (λ p. HasValueRests read (chars rest.now) rests.new p.0 (chars p.1.now)) }
 {
     let Some((c, after)) = split_first(rest) else {
-        return Ok((None, rest));
+        rests.keep_key(places, rest);
+        return read_lone_key(key, rest, read.line_without_separator);
     };
-    if is_line_end(c) {
-        return Err(Stop::new(
-            ParseKind::NoSeparator,
-            "no separator follows the key in its line",
-            after,
-        ));
+    if !is_separator(c) {
+        rests.keep_key(places, rest);
+        return read_lone_key(key, rest, read.line_without_separator);
     }
     if key.as_str().is_empty() {
         return Err(Stop::new(ParseKind::MissingKey, "missing key", after));
@@ -157,4 +157,31 @@ fn read_pair<'a>(
     let (value, end) = read_value(alloc, scratch, rests, places, after, read)?;
     rests.keep_key(places, rest);
     Ok((Some(BorrowedItem::Pair(key, value)), end))
+}
+
+// after a key that ends with its line, or with the text
+/// A key alone: refused, or a pair with the empty value.
+fn read_lone_key<'a>(
+    key: CowStr<'a>,
+    rest: &'a str,
+    line: LoneLine,
+) -> Result<(Option<BorrowedItem<'a>>, &'a str), Stop<'a>>
+    ensures { Gives given result (lone_key line (cow_text key.entry) (chars rest.now)) }
+{
+    let after = after_first(rest);
+    if !matches!(line, LoneLine::Key) {
+        return Err(Stop::new(
+            ParseKind::NoSeparator,
+            "no separator follows the key in its line",
+            after,
+        ));
+    }
+    if !key.as_str().is_empty() {
+        return Ok((Some(BorrowedItem::Pair(key, CowStr::Borrowed(""))), rest));
+    }
+    if rest.is_empty() {
+        let expected = Endpoints::Key.expected();
+        return Err(Stop::new(ParseKind::EndOfText, expected, rest));
+    }
+    Err(Stop::new(ParseKind::MissingKey, "missing key", after))
 }

@@ -16,10 +16,11 @@ use crate::item::BorrowedItem;
 use crate::option::ParseOption;
 use crate::parser::element::read_element;
 use crate::parser::fault::Stop;
+use crate::parser::line::past_note;
 use crate::parser::position::position;
 use crate::parser::rests::Rests;
 use crate::parser::{Parser, error_at};
-use crate::text::{Class, front_before, split_first, split_last};
+use crate::text::{Class, front_before, is_separator, split_first, split_last};
 use std::alloc::Global;
 use std::borrow::CowStr;
 
@@ -59,15 +60,17 @@ pub struct PlacedPair<'a> {
 pub struct PairPlaces<'a> {
     /// The key as it is written, with the blanks before and after it.
     pub key: &'a str,
-    /// `=` or `:`.
-    pub separator: char,
+    /// `=` or `:`, and `None` after a key alone, which nothing follows.
+    pub separator: Option<char>,
     /// The white space after the separator.
     pub space_before: &'a str,
     /// The value as it is written, with its quotes and escapes: what an edit of the value replaces.
     pub raw_value: &'a str,
-    /// The white space after the value, up to its line's end. It is the value's own where a backslash
-    /// stands before it that takes it along.
+    /// The white space after the value, up to a note or its line's end. It is the value's own where a
+    /// backslash stands before it that takes it along.
     pub space_after: &'a str,
+    /// Where inline comments are on, the note after the value, up to its line's end.
+    pub note: &'a str,
     /// Where values are multiline, the line end after the value, and the lines after it that give nothing;
     /// else nothing: the line end is no part of the pair.
     pub trailing_lines: &'a str,
@@ -165,17 +168,30 @@ fn place_pair<'a>(
     let after_key = rests.after_key;
     let start = rests.start;
     let tail = rests.tail;
-    let Some((separator, after)) = split_first(after_key) else {
-        unreachable!()
-    };
-    let (raw_value, space_after) = split_space_after(front_before(start, tail), read);
-    PairPlaces {
-        key: front_before(text, after_key),
-        separator,
-        space_before: front_before(after, start),
-        raw_value,
-        space_after,
-        trailing_lines: front_before(tail, end),
+    let key = front_before(text, after_key);
+    match split_first(after_key) {
+        Some((separator, after)) if is_separator(separator) => {
+            let (raw_value, space_after) = split_space_after(front_before(start, tail), read);
+            let after_note = past_note(tail, read);
+            PairPlaces {
+                key,
+                separator: Some(separator),
+                space_before: front_before(after, start),
+                raw_value,
+                space_after,
+                note: front_before(tail, after_note),
+                trailing_lines: front_before(after_note, end),
+            }
+        }
+        _ => PairPlaces {
+            key,
+            separator: None,
+            space_before: "",
+            raw_value: "",
+            space_after: "",
+            note: "",
+            trailing_lines: "",
+        },
     }
 }
 

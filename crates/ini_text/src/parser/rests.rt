@@ -5,11 +5,11 @@ ghost use Rattle.std.specs.Prelude.{◌≡◌, true};
 /// parser, since what is answered is moved and grows dear with its size.
 #[derive(Clone, Copy)]
 pub(crate) struct Rests<'a> {
-    /// What follows the key, from the separator on.
+    /// What follows the key, from what ends it on.
     pub(crate) after_key: &'a str,
     /// What the value's lines begin.
     pub(crate) start: &'a str,
-    /// What follows the value's own lines: those up to the last that gives more than line feeds.
+    /// What follows the text of the value's own lines: those up to the last that gives more than line feeds.
     pub(crate) tail: &'a str,
 }
 

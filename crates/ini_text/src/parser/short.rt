@@ -1,6 +1,6 @@
 //! Short pieces of a string: a run of fewer bytes than are tested together, and an escape after it. This
 //! file knows escapes, and nothing of lines, keys or names.
-ghost use Rattle.std.specs.Prelude.{◌≡◌, ◌∷◌, ◌≤◌, [], true, chars, drop, length, take, IfOk, IfSome};
+ghost use Rattle.std.specs.Prelude.{◌≡◌, ◌∷◌, ◌≤◌, [], false, true, chars, drop, length, take, IfOk, IfSome};
 ghost use Rattle.std.specs.Str.{IsCharBoundary};
 ghost use Rattle.ini_text.specs.Buffered.{buffered};
 ghost use Rattle.ini_text.specs.Inside.Endpoints.{ends_of};
@@ -41,15 +41,15 @@ pub(crate) fn read_short<'a>(
     ends: Endpoints,
 ) -> Result<&'a str, AllocError>
     ensures read { IfOk result (λ rest.
-        prepend (string_text out.old) (string (backslash_of read) (ends_of ends) (chars text.now))
-        ≡ prepend (string_text out.new) (string (backslash_of read) (ends_of ends) (chars rest.now))) }
+        prepend (string_text out.old) (string (backslash_of read) (ends_of read ends) (chars text.now))
+        ≡ prepend (string_text out.new) (string (backslash_of read) (ends_of read ends) (chars rest.now))) }
     ensures shorter { IfOk result (λ rest. length (chars rest.now) ≤ length (chars text.now)) }
 {
-    if !read.enabled_escape {
+    if !read.enabled_escape || ends.contains_notes(read) {
         return Ok(text);
     }
     let mut block: Buffer<BLOCK_LENGTH> = Buffer::new();
-    let rest = block.push_pieces(text, ends);
+    let rest = block.push_pieces(text, read, ends);
     let bytes = block.as_bytes();
     if bytes.is_empty() {
         return Ok(text);
@@ -67,17 +67,18 @@ pub(crate) fn read_short<'a>(
 impl Buffer<BLOCK_LENGTH> {
     // Puts in the values of some short pieces, and gives what follows the pieces.
     #[inline(always)]
-    fn push_pieces<'a>(&mut self, text: &'a str, ends: Endpoints) -> &'a str
-        requires { buffered self.old ≡ [] }
-        ensures read { string Escape (ends_of ends) (chars text.now)
-            ≡ prepend (chars (buffered self.new)) (string Escape (ends_of ends) (chars result.now)) }
+    fn push_pieces<'a>(&mut self, text: &'a str, read: ParseOption, ends: Endpoints) -> &'a str
+        requires empty { buffered self.old ≡ [] }
+        requires no_notes { (ends_of read ends).notes ≡ false }
+        ensures read { string Escape (ends_of read ends) (chars text.now)
+            ≡ prepend (chars (buffered self.new)) (string Escape (ends_of read ends) (chars result.now)) }
         ensures shorter { length (chars result.now) ≤ length (chars text.now) }
     {
         let mut len = self.len;
         let mut rest = text;
         let mut known = 0;
         'pieces: while len <= BLOCK_LENGTH - LANES - LONGEST_CHARACTER {
-            let Some((run_length, value, taken, bits)) = split_short(rest, known, ends) else {
+            let Some((run_length, value, taken, bits)) = split_short(rest, known, read, ends) else {
                 break 'pieces;
             };
             place_lanes(&mut self.bytes, len, u8x16::from_slice(rest.as_bytes()));
@@ -94,13 +95,19 @@ impl Buffer<BLOCK_LENGTH> {
 /// How many bytes of a run stand before an escape, what that stands for, and how many bytes it has, with the
 /// bits of the bytes that end a run.
 #[inline(always)]
-fn split_short(text: &str, known: u64, ends: Endpoints) -> Option<(usize, char, usize, u64)>
-    requires { Sees (ends_of ends) known text.now }
-    ensures piece { IfSome result (λ p. IsShort (ends_of ends) text.now p.0 p.1 p.2) }
-    ensures seen { IfSome result (λ p. Sees (ends_of ends) p.3 text.now) }
+fn split_short(
+    text: &str,
+    known: u64,
+    read: ParseOption,
+    ends: Endpoints,
+) -> Option<(usize, char, usize, u64)>
+    requires no_notes { (ends_of read ends).notes ≡ false }
+    requires seen { Sees (ends_of read ends) known text.now }
+    ensures piece { IfSome result (λ p. IsShort (ends_of read ends) text.now p.0 p.1 p.2) }
+    ensures seen { IfSome result (λ p. Sees (ends_of read ends) p.3 text.now) }
 {
     // So many bytes follow that a run and an escape need no test of length.
-    let marks = ends.marks()?;
+    let marks = ends.marks(read)?;
     let bits = marks_ahead(text.as_bytes(), known, LANES, &marks);
     if bits == 0 {
         return None;

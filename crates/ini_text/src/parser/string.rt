@@ -9,7 +9,7 @@ ghost use Rattle.ini_text.specs.Parsing.Items.{string_text};
 
 use crate::error::ParseKind;
 use crate::option::ParseOption;
-use crate::parser::endpoints::{Endpoints, split_run};
+use crate::parser::endpoints::{Endpoints, split_noted_run, split_run};
 use crate::parser::fault::Stop;
 use crate::parser::short::{read_short, split_coded};
 use crate::parser::tables::letter_value;
@@ -18,21 +18,25 @@ use std::alloc::AllocError;
 
 /// A string of one run, and what follows it, from its endpoint on. `None` where it has a backslash, or
 /// isn't ended.
-pub(crate) fn split_raw(text: &str, ends: Endpoints) -> Option<(&str, &str)>
-    ensures { IfSome result (λ p. ReadsRaw (ends_of ends) (chars text.now) (chars p.0.now) (chars p.1.now)) }
+pub(crate) fn split_raw(text: &str, read: ParseOption, ends: Endpoints) -> Option<(&str, &str)>
+    ensures { IfSome result
+        (λ p. ReadsRaw (ends_of read ends) (chars text.now) (chars p.0.now) (chars p.1.now)) }
 {
-    let (run, rest) = split_run(text, ends);
-    match split_first(rest) {
-        Some((c, _)) => {
-            if c == '\\' {
-                return None;
-            }
+    // Where notes are off, they cost this test alone.
+    let parts = if read.enabled_inline_comment {
+        split_noted_run(text, read, ends)
+    } else {
+        split_run(text, read, ends)
+    };
+    let (run, rest) = parts;
+    if rest.is_empty() {
+        if !ends.contains_text_end(read) {
+            return None;
         }
-        None => {
-            if !ends.contains_text_end() {
-                return None;
-            }
-        }
+        return Some((run, rest));
+    }
+    if rest.as_bytes()[0] == b'\\' {
+        return None;
     }
     Some((run, rest))
 }
@@ -46,14 +50,19 @@ pub(crate) fn read_string<'a>(
     ends: Endpoints,
 ) -> Result<&'a str, Stop<'a>>
     ensures { Appends (string_text out.new) result
-        (prepend (string_text out.old) (string (backslash_of read) (ends_of ends) (chars text.now))) }
+        (prepend (string_text out.old) (string (backslash_of read) (ends_of read ends) (chars text.now))) }
 {
     let mut rest = text;
     'pieces: loop {
-        let (run, next) = split_run(rest, ends);
+        let parts = if read.enabled_inline_comment {
+            split_noted_run(rest, read, ends)
+        } else {
+            split_run(rest, read, ends)
+        };
+        let (run, next) = parts;
         push_text(out, run)?;
         let Some((c, after)) = split_first(next) else {
-            if ends.contains_text_end() {
+            if ends.contains_text_end(read) {
                 return Ok(next);
             }
             return Err(Stop::new(ParseKind::EndOfText, ends.expected(), next));
@@ -67,7 +76,7 @@ pub(crate) fn read_string<'a>(
             continue;
         }
         let Some((d, following)) = split_first(after) else {
-            if !ends.contains_text_end() {
+            if !ends.contains_text_end(read) {
                 return Err(Stop::new(ParseKind::EndOfText, ends.expected(), after));
             }
             push(out, '\\')?;

@@ -28,10 +28,10 @@ pub(crate) fn read_trimmed<'a>(
     both: bool,
 ) -> Result<(CowStr<'a>, &'a str), Stop<'a>>
     ensures { Gives cow_text result
-        (altered_answer (trimmed_at both) (string (backslash_of read) (ends_of ends) (chars text.now))) }
+        (altered_answer (trimmed_at both) (string (backslash_of read) (ends_of read ends) (chars text.now))) }
 {
     // Most strings are one run of the text: they are borrowed.
-    if let Some((run, rest)) = split_raw(text, ends) {
+    if let Some((run, rest)) = split_raw(text, read, ends) {
         return Ok((CowStr::Borrowed(trimmed(run, both)), rest));
     }
     scratch.clear();

@@ -14,7 +14,7 @@ use crate::text::{
 
 impl<'a> Parser<'a> {
     /// Skips white space and comments before the next item that stand there whatever follows the text: each
-    /// comment that LF ends, each indented one with its line end, each empty line, and each white character
+    /// comment that LF ends, each other one with its line end, each empty line, and each white character
     /// that isn't the indentation of a line.
     pub fn skip_trivia(&mut self)
         ensures option { self.new.option ≡ self.old.option }
@@ -42,7 +42,8 @@ fn after_trivia<'a>(text: &str, start: &'a str, read: ParseOption) -> &'a str
 
 // What follows the first of the trivia with which a text begins after a front.
 fn past_first<'a>(front: &str, text: &'a str, read: ParseOption) -> Option<&'a str>
-    ensures { past_first read (chars front.now) (chars text.now) ≡ option_map (λ after. chars after.now) result }
+    ensures { past_first read (chars front.now) (chars text.now)
+        ≡ option_map (λ after. chars after.now) result }
 {
     let (c, after) = split_first(text)?;
     if Class::Blank.contains(c) && starts_line(front) {
@@ -55,8 +56,13 @@ fn past_first<'a>(front: &str, text: &'a str, read: ParseOption) -> Option<&'a s
         let (_, following) = split_first(skip_line(after))?;
         return Some(following);
     }
-    if starts_line(front) && read.begins_note(c) {
-        return past_line_end(text, read);
+    if is_comment_mark(c) && read.may_have_note(front) {
+        let (end, following) = split_first(skip_note(after))?;
+        return if is_line_end(end) {
+            Some(following)
+        } else {
+            None
+        };
     }
     None
 }

@@ -15,7 +15,7 @@ ghost use Rattle.ini_text.specs.Parsing.Items.{cow_text, string_text};
 use crate::error::ParseKind;
 use crate::option::ParseOption;
 use crate::parser::fault::Stop;
-use crate::parser::line::{read_first_line, read_line};
+use crate::parser::line::{past_note, read_first_line, read_line};
 use crate::parser::rests::Rests;
 use crate::text::{Class, is_line_end, push, skip, skip_note, split_first, split_last};
 use std::alloc::{AllocError, Global};
@@ -39,9 +39,9 @@ pub(crate) fn read_value<'a>(
         return read_multiline(alloc, scratch, rests, places, text, read);
     }
     let start = skip(text, Class::InlineWhite);
-    let (value, end) = read_first_line(alloc, scratch, start, read)?;
-    rests.keep_lines(places, start, end);
-    Ok((value, end))
+    let (value, tail) = read_first_line(alloc, scratch, start, read)?;
+    rests.keep_lines(places, start, tail);
+    Ok((value, past_note(tail, read)))
 }
 
 /// The same, where values are multiline.
@@ -58,19 +58,20 @@ fn read_multiline<'a>(
     ensures rests { places ≡ true → HasLines read (chars text.now) rests.new result }
 {
     let start = skip(text, Class::InlineWhite);
-    let (first, end) = read_first_line(alloc, scratch, start, read)?;
+    let (first, tail) = read_first_line(alloc, scratch, start, read)?;
+    let end = past_note(tail, read);
     let Some(next) = after_line_end(end) else {
         let value = trim_line_feeds(alloc, first)?;
-        rests.keep_lines(places, start, end);
+        rests.keep_lines(places, start, tail);
         return Ok((value, end));
     };
     if ends_before(next) {
         let value = trim_line_feeds(alloc, first)?;
-        rests.keep_lines(places, start, end);
+        rests.keep_lines(places, start, tail);
         return Ok((value, next));
     }
     let mut lines = first.into_owned(alloc)?;
-    let (tail, rest) = read_more(alloc, &mut lines, text, start, end, next, read)?;
+    let (tail, rest) = read_more(alloc, &mut lines, text, start, tail, next, read)?;
     let value = trim_line_feeds(alloc, CowStr::Owned(lines))?;
     rests.keep_lines(places, start, tail);
     Ok((value, rest))
@@ -123,29 +124,29 @@ pub(crate) fn after_cr(text: &str) -> Result<&str, Stop<'_>>
 }
 
 // more-lines = *(LF / CR LF / blank *inline-white (line / note) (line-end / end))
-/// Appends the lines with which a value goes on after its first line end, and gives what follows the last of
-/// them that gives more than line feeds, and what follows all. The value's text and where it starts are named
-/// for the clauses alone.
+/// Appends the lines with which a value goes on after its first line end, and gives what follows the text of
+/// the last that gives more than line feeds, and what follows all. The value's text and where it starts are
+/// named for the clauses alone.
 fn read_more<'a>(
     alloc: Global,
     out: &mut String,
     text: &str,
     start: &str,
-    end: &'a str,
+    first_tail: &'a str,
     next: &'a str,
     read: ParseOption,
 ) -> Result<(&'a str, &'a str), Stop<'a>>
     requires multiline { read.enabled_indented_mutiline_value ≡ true }
     requires starts { chars start.now ≡ skipped is_inline_white (chars text.now) }
-    requires known { TailSoFar read (chars text.now) (chars start.now) (chars end.now) (chars next.now)
-        (string_text out.old) }
+    requires known { TailSoFar read (chars text.now) (chars start.now) (chars first_tail.now)
+        (chars next.now) (string_text out.old) }
     ensures { MatchResult result
         (λ p. HasTail read (chars text.now) (chars start.now) (chars p.0.now)
         (without_outer_line_feeds (string_text out.new)) (chars p.1.now))
         (StopsBy (value read (chars text.now))) }
 {
     let _ = (text, start);
-    let mut tail = end;
+    let mut tail = first_tail;
     let mut rest = next;
     'lines: while let Some((c, after)) = split_first(rest) {
         if c == '\n' {
@@ -162,10 +163,11 @@ fn read_more<'a>(
         } else if Class::Blank.contains(c) {
             push(out, '\n')?;
             let len = out.len();
-            let end = read_line(alloc, out, skip(rest, Class::InlineWhite), read, false)?;
+            let line_tail = read_line(alloc, out, skip(rest, Class::InlineWhite), read, false)?;
             if gives_more(out.as_str(), len) {
-                tail = end;
+                tail = line_tail;
             }
+            let end = past_note(line_tail, read);
             let Some(next) = after_line_end(end) else {
                 return Ok((tail, end));
             };

@@ -1,4 +1,5 @@
 //! What stands in a text as it is read is borrowed from it, and the rest is owned.
+use super::text_edits::show::options_of;
 use ini_text::{BorrowedItem, ParseOption, Parser};
 use std::alloc::Global;
 use std::borrow::CowStr;
@@ -13,30 +14,24 @@ fn is_borrowed(alloc: Global, text: &str, opt: ParseOption) -> bool {
     }
 }
 
-#[test]
-fn names_are_borrowed(rt: HostRuntime) {
-    let plain = ParseOption::default();
-    let brackets = ParseOption {
-        enabled_brackets_in_section_names: true,
-        ..ParseOption::default()
-    };
-    assert!(rt; is_borrowed(rt.alloc(), "[ a ]", plain));
-    assert!(rt; is_borrowed(rt.alloc(), "[ a[0] ] \n", brackets));
-    assert!(rt; !is_borrowed(rt.alloc(), "[a\\n]", plain));
-    assert!(rt; !is_borrowed(rt.alloc(), "[a\\n]\n", brackets));
-}
+/// The letters of the options, a text, and whether its first item is borrowed.
+const ITEMS: [(&'static str, &'static str, bool); 10] = [
+    ("qe", "[ a ]", true),
+    ("qeb", "[ a[0] ] \n", true),
+    ("qe", "[a\\n]", false),
+    ("qeb", "[a\\n]\n", false),
+    ("qe", "k = v ", true),
+    ("qem", "k = v ", true),
+    ("qem", "k = v \n", true),
+    ("qem", "k = v \r\nj = w\n", true),
+    ("qem", "k = v\n w\n", false),
+    ("qem", "k = 'v'\n", false),
+];
 
 #[test]
-fn values_are_borrowed(rt: HostRuntime) {
-    let plain = ParseOption::default();
-    let multiline = ParseOption {
-        enabled_indented_mutiline_value: true,
-        ..ParseOption::default()
-    };
-    assert!(rt; is_borrowed(rt.alloc(), "k = v ", plain));
-    assert!(rt; is_borrowed(rt.alloc(), "k = v ", multiline));
-    assert!(rt; is_borrowed(rt.alloc(), "k = v \n", multiline));
-    assert!(rt; is_borrowed(rt.alloc(), "k = v \r\nj = w\n", multiline));
-    assert!(rt; !is_borrowed(rt.alloc(), "k = v\n w\n", multiline));
-    assert!(rt; !is_borrowed(rt.alloc(), "k = 'v'\n", multiline));
+fn what_stands_as_it_is_read_is_borrowed(rt: HostRuntime) {
+    for (letters, text, want) in ITEMS {
+        let is_borrowed = is_borrowed(rt.alloc(), text, options_of(letters));
+        assert!(rt; is_borrowed == want, "{text}");
+    }
 }

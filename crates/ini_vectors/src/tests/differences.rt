@@ -1,4 +1,5 @@
 //! What differs between two documents, setting by setting.
+use super::text_edits::show::put;
 use ini::{Error, Ini, ParseOption, WriteOption};
 use ini_edit::{EditError, Source};
 use ini_layers::{Change, Conflict, Side, apply, conflicts, diff, merge, taken};
@@ -16,10 +17,9 @@ fn shown(alloc: Global, changes: &[Change<'_>]) -> Result<String, Error> {
             old,
             new,
         } = *change;
-        let name = name.unwrap_or("general");
-        let old = old.unwrap_or("none");
+        let (name, old) = (name.unwrap_or("general"), old.unwrap_or("none"));
         let new = new.unwrap_or("none");
-        out.push_str(format!(in alloc; "{name} {key}: {old}, {new}\n")?.as_str())?;
+        put(&mut out, &[name, " ", key, ": ", old, ", ", new, "\n"])?;
     }
     Ok(out)
 }
@@ -71,14 +71,6 @@ const ROWS: [(&str, &str, &str); 17] = [
     ("[a]\nk=1\n", "[A]\nK=1\n", "A K: none, 1\na k: 1, none\n"),
 ];
 
-#[test]
-fn settings_that_differ_are_listed_once(rt: HostRuntime) {
-    for (from, to, want) in ROWS {
-        let got = difference(rt.alloc(), from, to).expect(&rt, "memory");
-        assert!(rt; got.as_str() == want, "{from:?} {to:?}: {got}");
-    }
-}
-
 /// A text of one section with so many keys, each with its number as a value; `changed` has another one.
 fn many_keys(alloc: Global, count: usize, changed: usize) -> Result<String, Error> {
     let mut text = String::from_str(alloc, "[a]\n")?;
@@ -90,8 +82,12 @@ fn many_keys(alloc: Global, count: usize, changed: usize) -> Result<String, Erro
 }
 
 #[test]
-fn of_many_keys_the_changed_one_is_listed(rt: HostRuntime) {
+fn settings_that_differ_are_listed_once(rt: HostRuntime) {
     let alloc = rt.alloc();
+    for (from, to, want) in ROWS {
+        let got = difference(alloc, from, to).expect(&rt, "memory");
+        assert!(rt; got.as_str() == want, "{from}: {got}");
+    }
     let from = many_keys(alloc, 3000, 7).expect(&rt, "memory");
     let to = many_keys(alloc, 3000, 2999).expect(&rt, "memory");
     let got = difference(alloc, from.as_str(), to.as_str()).expect(&rt, "memory");
@@ -133,14 +129,6 @@ const APPLIED: [(&str, &str, &str, &str); 8] = [
     ("[a]\nk=1\n", "", "[a]\nk=1\n[a]\nk=2\n", "[a]\n[a]\nk=2\n"),
 ];
 
-#[test]
-fn changes_are_made_in_a_text(rt: HostRuntime) {
-    for (from, to, text, want) in APPLIED {
-        let got = applied(rt.alloc(), from, to, text).expect(&rt, "memory");
-        assert!(rt; got.as_str() == want, "{from:?} {to:?} {text:?}: {got}");
-    }
-}
-
 /// Conflicts, a line each: the section's name, the key, and the three values.
 fn shown_conflicts(alloc: Global, conflicts: &[Conflict<'_>]) -> Result<String, Error> {
     let mut out = String::new(alloc);
@@ -149,7 +137,10 @@ fn shown_conflicts(alloc: Global, conflicts: &[Conflict<'_>]) -> Result<String, 
         let (name, key) = (change.name.unwrap_or("general"), change.key);
         let (base, ours) = (change.old.unwrap_or("none"), change.new.unwrap_or("none"));
         let theirs = theirs.unwrap_or("none");
-        out.push_str(format!(in alloc; "{name} {key}: {base}, {ours}, {theirs}\n")?.as_str())?;
+        put(
+            &mut out,
+            &[name, " ", key, ": ", base, ", ", ours, ", ", theirs, "\n"],
+        )?;
     }
     Ok(out)
 }
@@ -166,8 +157,9 @@ fn merged_for(
     let changes = shown(alloc, changes.as_slice())?;
     match merge(alloc, &WriteOption::default(), base, ours, theirs, side) {
         Ok(new) => {
-            let text = new.to_text(alloc)?;
-            Ok(format!(in alloc; "{text}|{changes}|")?)
+            let mut out = new.to_text(alloc)?;
+            put(&mut out, &["|", changes.as_str(), "|"])?;
+            Ok(out)
         }
         Err(refused) => Err(refused.refusal),
     }
@@ -178,11 +170,12 @@ fn merged(alloc: Global, base: &str, ours: &str, theirs: &str) -> Result<String,
     let base = Ini::load_from_str(alloc, base)?;
     let ours = Ini::load_from_str(alloc, ours)?;
     let theirs = Source::read(alloc, theirs, ParseOption::default())?;
-    let by_ours = merged_for(alloc, &base, &ours, &theirs, Side::Ours)?;
+    let mut out = merged_for(alloc, &base, &ours, &theirs, Side::Ours)?;
     let by_theirs = merged_for(alloc, &base, &ours, &theirs, Side::Theirs)?;
     let found = conflicts(alloc, &base, &ours, &theirs)?;
     let found = shown_conflicts(alloc, found.as_slice())?;
-    Ok(format!(in alloc; "{by_ours}{by_theirs}{found}")?)
+    put(&mut out, &[by_theirs.as_str(), found.as_str()])?;
+    Ok(out)
 }
 
 /// Base, ours and theirs; and what a merge makes of them.
@@ -238,9 +231,14 @@ const MERGED: [(&str, &str, &str, &str); 10] = [
 ];
 
 #[test]
-fn both_sides_are_merged(rt: HostRuntime) {
+fn changes_are_made_and_both_sides_are_merged(rt: HostRuntime) {
+    let alloc = rt.alloc();
+    for (from, to, text, want) in APPLIED {
+        let got = applied(alloc, from, to, text).expect(&rt, "memory");
+        assert!(rt; got.as_str() == want, "{text}: {got}");
+    }
     for (base, ours, theirs, want) in MERGED {
-        let got = merged(rt.alloc(), base, ours, theirs).expect(&rt, "memory");
-        assert!(rt; got.as_str() == want, "{base:?} {ours:?} {theirs:?}: {got}");
+        let got = merged(alloc, base, ours, theirs).expect(&rt, "memory");
+        assert!(rt; got.as_str() == want, "{theirs}: {got}");
     }
 }

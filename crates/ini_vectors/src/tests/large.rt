@@ -3,21 +3,20 @@
 use ini::edits::{Edit, apply};
 use ini::{Error, Ini, Properties};
 use std::alloc::Global;
-use std::process::Abort;
 
 /// How many pairs or sections there are.
 const MANY: usize = 70_000;
 
-/// Asks that this held of the call.
-fn expect(rt: &impl Abort, as_expected: bool, call: &str) {
-    assert!(rt; as_expected, "{call}");
+// The number as a name.
+fn name(alloc: Global, number: usize) -> Result<String, Error> {
+    Ok(format!(in alloc; "{number}")?)
 }
 
 // So many pairs of other keys, the first by insertion.
 fn many_pairs(alloc: Global) -> Result<Properties, Error> {
     let mut pairs = Properties::new(alloc);
     for number in 0..MANY {
-        let key = format!(in alloc; "{number}")?;
+        let key = name(alloc, number)?;
         if number < 1000 {
             pairs.insert(&key, "v")?;
         } else {
@@ -42,19 +41,6 @@ fn removed(alloc: Global) -> Result<usize, Error> {
     }
     let removed = pairs.remove_all("k")?.count();
     Ok(removed)
-}
-
-#[test]
-fn many_pairs_are_appended_cloned_and_removed(rt: HostRuntime) {
-    let cloned = matches!(is_cloned(rt.alloc()), Ok(true));
-    expect(&rt, cloned, "insert, append, clone");
-    let removed = matches!(removed(rt.alloc()), Ok(MANY));
-    expect(&rt, removed, "remove_all");
-}
-
-// The number as a name.
-fn name(alloc: Global, number: usize) -> Result<String, Error> {
-    Ok(format!(in alloc; "{number}")?)
 }
 
 // Opens so many sections, in turn by each call that may open one.
@@ -93,12 +79,6 @@ fn has_many_sections(alloc: Global) -> Result<bool, Error> {
     Ok(all && last && document.get_from(Some("69998"), "k") == Some("v"))
 }
 
-#[test]
-fn many_sections_are_opened_and_cloned(rt: HostRuntime) {
-    let as_expected = matches!(has_many_sections(rt.alloc()), Ok(true));
-    expect(&rt, as_expected, "set, add, set_to, or_insert, clone");
-}
-
 // Whether a name, a key and a value of so many bytes are set, written and loaded again.
 fn is_kept(alloc: Global, length: usize) -> Result<bool, Error> {
     let long = "x".repeat(alloc, length)?;
@@ -108,14 +88,6 @@ fn is_kept(alloc: Global, length: usize) -> Result<bool, Error> {
     document.write_to(&mut bytes)?;
     let back = Ini::read_from(alloc, &mut bytes.as_slice())?;
     Ok(back.get_from(Some(&long), &long) == Some(long.as_str()))
-}
-
-#[test]
-fn long_names_keys_and_values_are_kept(rt: HostRuntime) {
-    for length in [17, 20, 255, 256, 300, 65_535, 65_536, 70_000, 1_100_000] {
-        let kept = matches!(is_kept(rt.alloc(), length), Ok(true));
-        assert!(rt; kept, "{length} bytes");
-    }
 }
 
 // How many edits are made, each of which opens a section.
@@ -131,9 +103,21 @@ fn edits_made(alloc: Global, count: usize) -> Result<usize, Error> {
 }
 
 #[test]
-fn many_edits_are_made(rt: HostRuntime) {
+fn no_size_is_too_large(rt: HostRuntime) {
+    let alloc = rt.alloc();
+    assert!(rt;
+        matches!(is_cloned(alloc), Ok(true)),
+        "insert, append, clone"
+    );
+    assert!(rt; matches!(removed(alloc), Ok(MANY)), "remove_all");
+    let has_all = matches!(has_many_sections(alloc), Ok(true));
+    assert!(rt; has_all, "set, add, set_to, or_insert, clone");
+    for length in [17, 20, 255, 256, 300, 65_535, 65_536, 70_000, 1_100_000] {
+        let kept = matches!(is_kept(alloc, length), Ok(true));
+        assert!(rt; kept, "{length} bytes");
+    }
     for count in [20, 300, MANY] {
-        let made = matches!(edits_made(rt.alloc(), count), Ok(names) if names == count + 1);
+        let made = matches!(edits_made(alloc, count), Ok(names) if names == count + 1);
         assert!(rt; made, "{count} edits");
     }
 }

@@ -1,12 +1,48 @@
 //! What a parser skips between items, and what it leaves.
-use ini_text::{Error, Item, ParseOption, Parser};
+use crate::tests::text_edits::show::options_of;
+use ini_text::{Error, Item, Parser};
 use std::alloc::Global;
 
-// Whether this is left of the text after the white space and comments at its front.
-fn leaves(alloc: Global, text: &str, left: &str) -> bool {
-    let mut parser = Parser::new(alloc, text, ParseOption::default());
-    parser.skip_trivia();
-    parser.rest() == left
+/// The letters of the options, a text, and what is left of it after white space and comments at its front.
+const LEFT: [(&'static str, &'static str, &'static str); 18] = [
+    ("qe", "; a\n# b\n\n \t\r\n\u{B}\r\nk=v\n", "k=v\n"),
+    ("qe", "; a\n\n", ""),
+    ("qe", "[a]", "[a]"),
+    ("qe", "", ""),
+    // a comment that the text's end cuts short may go on
+    ("qe", "; a\n; b", "; b"),
+    // blanks at the start of a line belong to what follows
+    ("qe", "\n  k=v", "  k=v"),
+    ("qe", "\n  [a]", "  [a]"),
+    ("qe", "\n  ", "  "),
+    // a comment that isn't in column one is refused
+    ("qe", "\n\r; a\n", "; a\n"),
+    ("qec", "; a\n  ; b\r\n\t# c\r; d\r  k=v", "  k=v"),
+    (
+        "qe",
+        "; a\n  ; b\r\n\t# c\r; d\r  k=v",
+        "  ; b\r\n\t# c\r; d\r  k=v",
+    ),
+    ("qec", "\n  ; a", "  ; a"),
+    ("qec", "\r; a", "; a"),
+    ("qec", "\n  \\; a\n", "  \\; a\n"),
+    ("qen", "; a\n\u{B}; b\r\n\r# c\r\u{A0}#\n k=v", " k=v"),
+    (
+        "qe",
+        "; a\n\u{B}; b\r\n\r# c\r\u{A0}#\n k=v",
+        "; b\r\n\r# c\r\u{A0}#\n k=v",
+    ),
+    ("qen", "\n  ; a\n", "  ; a\n"),
+    ("qen", "\u{B}; a", "; a"),
+];
+
+#[test]
+fn what_can_not_change_any_more_is_skipped(rt: HostRuntime) {
+    for (letters, text, left) in LEFT {
+        let mut parser = Parser::new(rt.alloc(), text, options_of(letters));
+        parser.skip_trivia();
+        assert!(rt; parser.rest() == left, "{text}");
+    }
 }
 
 // The key of the next item, if it is a pair.
@@ -17,29 +53,9 @@ fn next_key(parser: &mut Parser<'_>) -> Result<Option<String>, Error> {
     }
 }
 
-#[test]
-fn trivia_that_stand_whatever_follows_are_skipped(rt: HostRuntime) {
-    assert!(rt; leaves(rt.alloc(), "; a\n# b\n\n \t\r\n\u{B}\r\nk=v\n", "k=v\n"));
-    assert!(rt; leaves(rt.alloc(), "; a\n\n", ""));
-    assert!(rt; leaves(rt.alloc(), "[a]", "[a]"));
-    assert!(rt; leaves(rt.alloc(), "", ""));
-}
-
-#[test]
-fn trivia_that_may_go_on_stay(rt: HostRuntime) {
-    // a comment that the text's end cuts short
-    assert!(rt; leaves(rt.alloc(), "; a\n; b", "; b"));
-    // blanks at the start of a line belong to what follows
-    assert!(rt; leaves(rt.alloc(), "\n  k=v", "  k=v"));
-    assert!(rt; leaves(rt.alloc(), "\n  [a]", "  [a]"));
-    assert!(rt; leaves(rt.alloc(), "\n  ", "  "));
-    // a comment that isn't in column one is refused
-    assert!(rt; leaves(rt.alloc(), "\n\r; a\n", "; a\n"));
-}
-
 // Skipped before, between and after items, it is all the same.
 fn keys(alloc: Global) -> Result<bool, Error> {
-    let mut parser = Parser::new(alloc, "; a\nk=v\n; b\n\nj=w\n\n", ParseOption::default());
+    let mut parser = Parser::new(alloc, "; a\nk=v\n; b\n\nj=w\n\n", options_of("qe"));
     parser.skip_trivia();
     let first = next_key(&mut parser)?;
     parser.skip_trivia();

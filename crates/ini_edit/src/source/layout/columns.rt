@@ -1,13 +1,13 @@
 //! The columns in which separators stand that are aligned. This file knows pairs and the rules of a layout.
-ghost use Rattle.std.specs.Prelude.{◌≡◌, IfOk, IsOkUnless, alloc_error, chars, length, max, true};
+ghost use Rattle.std.specs.Prelude.{◌≡◌, IfOk, IsOkUnless, alloc_error, chars, length, max};
 ghost use Rattle.ini_edit.specs.Inside.SourceLayouts.{rules_of};
-ghost use Rattle.ini_edit.specs.SourceLayout.{column_after, column_at, joins, laid_key, run_column};
+ghost use Rattle.ini_edit.specs.SourceLayout.{column_after, column_at, joins, key_width, run_column};
 
-use crate::source::layout::lines::Follower;
-use crate::source::layout::pair::push_key;
+use crate::source::layout::lines::{Follower, push_gap};
 use crate::source::layout::rules::Rules;
+use crate::source::lines::split_blanks;
 use crate::source::pair::SourcePair;
-use ini_text::{Error, is_same_text, split_first};
+use ini_text::{Error, is_same_text, past_note, split_first};
 use std::alloc::Global;
 
 /// The column of the first of pairs, which begins a line or not; before it is the column of the pair that is
@@ -73,24 +73,35 @@ impl<'a> SourcePair<'a> {
         Ok(0)
     }
 
-    // Whether nothing but a line end stands between the pair and the next one, once it is laid out.
+    // Whether nothing but a line end stands between the pair, with its note, and the next one, once it is
+    // laid out.
     fn joins(&self, alloc: Global, rules: &Rules<'_>) -> Result<bool, Error>
         ensures joins { IfOk result (λ is. is ≡ joins (rules_of rules.now) self.now) }
         ensures only { IsOkUnless result (Error.Memory alloc_error) }
     {
-        let mut lines = String::new(alloc);
-        self.push_laid_lines(alloc, &mut lines, rules, Follower::AsItIs, "", false)?;
-        Ok(is_same_text(lines.as_str(), rules.line_end.as_str()))
+        let mut lines = String::from_str(alloc, self.space_after())?;
+        self.push_behind_value(&mut lines, self.after())?;
+        let (_, bare) = split_blanks(lines.as_str());
+        let mut laid = String::new(alloc);
+        push_gap(
+            &mut laid,
+            rules,
+            Follower::AsItIs,
+            past_note(bare, rules.read),
+        )?;
+        Ok(is_same_text(laid.as_str(), rules.line_end.as_str()))
     }
 
-    // How wide the key is, laid out at a line's start.
+    // How wide the key is before a separator, laid out at a line's start.
     fn key_width(&self, alloc: Global, rules: &Rules<'_>) -> Result<usize, Error>
-        ensures width { IfOk result (λ width. width
-            ≡ length (laid_key (rules_of rules.now) true self.now.stretches.key)) }
+        ensures width { IfOk result (λ width. width ≡ key_width (rules_of rules.now) self.now) }
         ensures only { IsOkUnless result (Error.Memory alloc_error) }
     {
+        if !self.has_separator() {
+            return Ok(0);
+        }
         let mut key = String::new(alloc);
-        push_key(&mut key, rules, true, self.raw_key())?;
+        self.push_laid_key(&mut key, rules, true)?;
         Ok(width(key.as_str()))
     }
 }

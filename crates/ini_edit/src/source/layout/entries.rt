@@ -4,11 +4,11 @@ ghost use Rattle.std.specs.Prelude.{◌≡◌, ◌==◌, ◌&&◌, ◌||◌, ◌
 ghost use Rattle.std.specs.Prelude.{chars, false, true};
 ghost use Rattle.ini.specs.Texts.{Text, is_text};
 ghost use Rattle.ini_text.specs.Grammar.CharacterKinds.{carriage_return, is_line_feed};
-ghost use Rattle.ini_text.specs.Inside.PlainTests.{begins};
+ghost use Rattle.ini_text.specs.Grammar.CharacterKinds.{begins};
 ghost use Rattle.ini_edit.specs.SourceLines.{is_empty};
 ghost use Rattle.ini_text.specs.Parsing.Items.{string_text};
 ghost use Rattle.ini_edit.specs.Inside.SourceLayouts.{all_same, says_same_pair, says_same_section};
-ghost use Rattle.ini_edit.specs.SourceEntries.{comments_from, comments_in};
+ghost use Rattle.ini_edit.specs.SourceEntries.{behind_value, comments_from, comments_in};
 
 use crate::append::push;
 use crate::source::is_same_name;
@@ -88,7 +88,25 @@ fn says_same_pair(
     if !is_same_text(pair.key(), other.key()) || !is_same_text(pair.value(), other.value()) {
         return Ok(false);
     }
-    have_same_comments(alloc, pair.after(), other.after())
+    have_same_comments_behind(alloc, (pair, pair.after()), (other, other.after()))
+}
+
+/// Whether two pairs, each before such a rest, have the same comments behind their values.
+pub(crate) fn have_same_comments_behind(
+    alloc: Global,
+    one: (&SourcePair<'_>, &str),
+    other: (&SourcePair<'_>, &str),
+) -> Result<bool, Error>
+    ensures same { IfOk result (λ same. same
+        ≡ is_text (comments_in (behind_value one.entry.0.now.stretches (chars one.entry.1.now)))
+        (comments_in (behind_value other.entry.0.now.stretches (chars other.entry.1.now)))) }
+    ensures only { IsOkUnless result (Error.Memory alloc_error) }
+{
+    let mut lines = String::new(alloc);
+    one.0.push_behind_value(&mut lines, one.1)?;
+    let mut others = String::new(alloc);
+    other.0.push_behind_value(&mut others, other.1)?;
+    have_same_comments(alloc, lines.as_str(), others.as_str())
 }
 
 /// Whether two gaps have the same comments.

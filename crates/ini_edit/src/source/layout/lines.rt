@@ -1,7 +1,7 @@
 //! Gaps laid out, line by line. This file knows kinds of characters and the rules of a layout, and no piece.
 ghost use Rattle.std.specs.Prelude.{◌≡◌, ◌==◌, ◌&&◌, ◌++◌, not, IsOkUnless, OnOk, alloc_error, chars};
 ghost use Rattle.ini_text.specs.Grammar.CharacterKinds.{carriage_return, is_blank, is_line_feed};
-ghost use Rattle.ini_text.specs.Inside.PlainTests.{begins};
+ghost use Rattle.ini_text.specs.Grammar.CharacterKinds.{begins};
 ghost use Rattle.ini_text.specs.Parsing.Items.{string_text};
 ghost use Rattle.ini_text.specs.Options.WriteOptions.{line_end};
 ghost use Rattle.ini_edit.specs.Inside.SourceLayouts.{rules_of};

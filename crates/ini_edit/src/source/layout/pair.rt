@@ -1,14 +1,18 @@
 //! A pair laid out. This file knows the stretches of a pair.
 ghost use Rattle.std.specs.Prelude.{◌≡◌, ◌==◌, ◌++◌, ◌||◌, [], if◌then◌else◌, IsOkUnless, OnOk, alloc_error};
 ghost use Rattle.std.specs.Prelude.{chars, replicate, true};
+ghost use Rattle.std.specs.Option.{option_map};
 ghost use Rattle.ini_text.specs.Grammar.CharacterKinds.{is_comment_mark, is_line_end, open_bracket, space};
-ghost use Rattle.ini_text.specs.Inside.PlainTests.{begins};
+ghost use Rattle.ini_text.specs.Grammar.CharacterKinds.{begins};
 ghost use Rattle.ini_text.specs.Parsing.Fronts.{IsRest};
 ghost use Rattle.ini_text.specs.Parsing.Items.{string_text};
+ghost use Rattle.ini_edit.specs.Inside.SourceEnds.{style_of};
 ghost use Rattle.ini_edit.specs.Inside.SourceLayouts.{rules_of};
 ghost use Rattle.ini_edit.specs.Prevailing.{leaves_line_empty};
+ghost use Rattle.ini_edit.specs.SourceEntries.{behind_value};
 ghost use Rattle.ini_edit.specs.SourceLayout.{aligned_key, indent_for, indents, laid_gap, laid_key};
 ghost use Rattle.ini_edit.specs.SourceLayout.{laid_pair, laid_space, lines_of, pad_for, separator_for};
+ghost use Rattle.ini_edit.specs.SourceLayout.{style_of_key, without_pad};
 ghost use Rattle.ini_edit.specs.SourceLines.{is_empty};
 ghost use Rattle.ini_edit.specs.declared.source.layout.lines.Follower.TheVariants as Followers;
 
@@ -18,7 +22,9 @@ use crate::source::layout::lines::{Follower, push_gap};
 use crate::source::layout::rules::Rules;
 use crate::source::lines::{blanks_at_end, is_empty, last_or, split_blanks};
 use crate::source::pair::SourcePair;
-use ini_text::{Error, front_before, is_comment_mark, is_line_end, split_first};
+use crate::source::written::PairStyle;
+use crate::text::begins_with_comment;
+use ini_text::{Error, ParseOption, front_before, is_comment_mark, is_line_end, split_first};
 use std::alloc::Global;
 
 impl<'a> SourcePair<'a> {
@@ -36,10 +42,68 @@ impl<'a> SourcePair<'a> {
             ≡ string_text out.old ++ laid_pair (rules_of rules.now) starts column self.now) }
         ensures only { IsOkUnless result (Error.Memory alloc_error) }
     {
-        push_aligned_key(alloc, out, rules, starts, column, self.raw_key())?;
-        push(out, separator_for(rules, self.separator()))?;
+        let Some(separator) = self.separator() else {
+            return self.push_laid_key(out, rules, starts);
+        };
+        self.push_aligned_key(alloc, out, rules, starts, column)?;
+        push(out, separator_for(rules, separator))?;
         push_text(out, space_for(rules, self.raw_value(), self.space_before()))?;
         push_text(out, self.raw_value())
+    }
+
+    // Appends the key's source, laid out, with spaces up to this column.
+    fn push_aligned_key(
+        &self,
+        alloc: Global,
+        out: &mut String,
+        rules: &Rules<'_>,
+        starts: bool,
+        column: usize,
+    ) -> Result<(), Error>
+        ensures pushed { OnOk result (string_text out.new ≡ string_text out.old ++ aligned_key column
+            (laid_key (rules_of rules.now) starts self.now)) }
+        ensures only { IsOkUnless result (Error.Memory alloc_error) }
+    {
+        if column == 0 {
+            return self.push_laid_key(out, rules, starts);
+        }
+        let mut laid = String::new(alloc);
+        self.push_laid_key(&mut laid, rules, starts)?;
+        push_text(out, laid.as_str())?;
+        push_spaces(out, column.saturating_sub(width(laid.as_str())))
+    }
+
+    /// Appends the key's source, laid out.
+    pub(crate) fn push_laid_key(
+        &self,
+        out: &mut String,
+        rules: &Rules<'_>,
+        starts: bool,
+    ) -> Result<(), Error>
+        ensures pushed { OnOk result (string_text out.new
+            ≡ string_text out.old ++ laid_key (rules_of rules.now) starts self.now) }
+        ensures only { IsOkUnless result (Error.Memory alloc_error) }
+    {
+        let (indent, own) = split_blanks(self.raw_key());
+        let pad = blanks_at_end(own);
+        let bare = front_before(own, pad);
+        push_indent(out, rules, starts, indent, own)?;
+        push_text(out, bare)?;
+        push_text(out, self.pad_for(rules, bare, pad))
+    }
+
+    // The blanks after the key, before a separator, before a note, or alone.
+    fn pad_for<'t>(&self, rules: &Rules<'t>, bare: &str, pad: &'t str) -> &'t str
+        ensures { chars result.now ≡ pad_for (rules_of rules.now).option
+            (style_of_key self.now (rules_of rules.now).style) (chars bare.now) (chars pad.now) }
+    {
+        if self.has_separator() {
+            return pad_by(rules.read, rules.style, bare, pad);
+        }
+        if begins_with_comment(self.after()) {
+            return pad;
+        }
+        pad_by(rules.read, without_pad(rules.style), bare, pad)
     }
 
     /// Appends what stands after the pair's value, laid out: of a section's last pair up to a rest of it,
@@ -76,56 +140,25 @@ impl<'a> SourcePair<'a> {
         kept: &str,
     ) -> Result<(), Error>
         ensures pushed { OnOk result (string_text out.new ≡ string_text out.old
-            ++ laid_gap (rules_of rules.now) follower (self.now.stretches.space_after
-            ++ (self.now.stretches.trailing_lines ++ chars kept.now))) }
+            ++ laid_gap (rules_of rules.now) follower
+            (self.now.stretches.space_after ++ behind_value self.now.stretches (chars kept.now))) }
         ensures only { IsOkUnless result (Error.Memory alloc_error) }
     {
         let mut lines = String::from_str(alloc, self.space_after())?;
-        push_text(&mut lines, self.trailing_lines())?;
-        push_text(&mut lines, kept)?;
+        self.push_behind_value(&mut lines, kept)?;
         push_gap(out, rules, follower, lines.as_str())
     }
-}
 
-// Appends a key's source, laid out, with spaces up to this column.
-fn push_aligned_key(
-    alloc: Global,
-    out: &mut String,
-    rules: &Rules<'_>,
-    starts: bool,
-    column: usize,
-    key: &str,
-) -> Result<(), Error>
-    ensures pushed { OnOk result (string_text out.new ≡ string_text out.old
-        ++ aligned_key column (laid_key (rules_of rules.now) starts (chars key.now))) }
-    ensures only { IsOkUnless result (Error.Memory alloc_error) }
-{
-    if column == 0 {
-        return push_key(out, rules, starts, key);
+    /// Appends the note and the lines behind the value, and this front of the gap.
+    pub(crate) fn push_behind_value(&self, out: &mut String, kept: &str) -> Result<(), Error>
+        ensures pushed { OnOk result (string_text out.new
+            ≡ string_text out.old ++ behind_value self.now.stretches (chars kept.now)) }
+        ensures only { IsOkUnless result (Error.Memory alloc_error) }
+    {
+        push_text(out, self.note())?;
+        push_text(out, self.trailing_lines())?;
+        push_text(out, kept)
     }
-    let mut laid = String::new(alloc);
-    push_key(&mut laid, rules, starts, key)?;
-    push_text(out, laid.as_str())?;
-    push_spaces(out, column.saturating_sub(width(laid.as_str())))
-}
-
-/// Appends a key's source, laid out.
-pub(crate) fn push_key(
-    out: &mut String,
-    rules: &Rules<'_>,
-    starts: bool,
-    key: &str,
-) -> Result<(), Error>
-    ensures pushed { OnOk result (string_text out.new
-        ≡ string_text out.old ++ laid_key (rules_of rules.now) starts (chars key.now)) }
-    ensures only { IsOkUnless result (Error.Memory alloc_error) }
-{
-    let (indent, own) = split_blanks(key);
-    let pad = blanks_at_end(own);
-    let bare = front_before(own, pad);
-    push_indent(out, rules, starts, indent, own)?;
-    push_text(out, bare)?;
-    push_text(out, pad_for(rules, bare, pad))
 }
 
 // Appends what indents a key.
@@ -186,20 +219,31 @@ fn push_spaces(out: &mut String, count: usize) -> Result<(), Error>
     Ok(())
 }
 
-// The blanks after a key.
-fn pad_for<'t>(rules: &Rules<'t>, bare: &str, pad: &'t str) -> &'t str
+// The blanks after a key by such a style.
+fn pad_by<'t>(read: ParseOption, style: Option<PairStyle<'t>>, bare: &str, pad: &'t str) -> &'t str
     ensures { chars result.now
-        ≡ pad_for (rules_of rules.now).option (rules_of rules.now).style (chars bare.now) (chars pad.now) }
+        ≡ pad_for read (option_map style_of style.entry) (chars bare.now) (chars pad.now) }
 {
-    match rules.style {
+    match style {
         Some(style) => {
-            if rules.read.begins_escape(last_or(' ', bare)) {
+            if read.begins_escape(last_or(' ', bare)) {
                 pad
             } else {
                 style.pad
             }
         }
         None => pad,
+    }
+}
+
+// A style without blanks after a key.
+fn without_pad<'t>(style: Option<PairStyle<'t>>) -> Option<PairStyle<'t>>
+    ensures { option_map style_of result
+        ≡ option_map without_pad (option_map style_of style.entry) }
+{
+    match style {
+        Some(style) => Some(PairStyle { pad: "", ..style }),
+        None => None,
     }
 }
 

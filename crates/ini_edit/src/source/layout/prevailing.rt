@@ -76,7 +76,7 @@ impl<'a> SourcePair<'a> {
     {
         let spaced = begins_with_blank(self.space_before());
         let padded = if aligned { spaced } else { self.is_padded() };
-        Form::new(self.separator(), padded, spaced)
+        Form::new(self.separator().unwrap_or('='), padded, spaced)
     }
 
     // Whether blanks stand before the separator.

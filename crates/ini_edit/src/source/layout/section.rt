@@ -130,7 +130,7 @@ fn push_pairs(
         let is_last = i + 1 == pairs.len();
         pair.push_laid_lines(alloc, out, rules, follower, rest, is_last)?;
         column = pair.column_after(alloc, rules, here)?;
-        last = pair.last_char();
+        last = pair.last_char(last);
     }
     Ok(())
 }

@@ -12,7 +12,7 @@ ghost use Rattle.ini_edit.specs.Sorting.{IsOrdered, IsSortOf, IsSortedIf, KeepsA
 ghost use Rattle.ini_edit.specs.Sorting.{sorts_keys, sorts_sections, unit_key, unit_name, units_in};
 ghost use Rattle.ini_edit.specs.WholeTexts.{IsRefusalOf};
 
-use crate::source::layout::entries::have_same_comments;
+use crate::source::layout::entries::{have_same_comments, have_same_comments_behind};
 use crate::source::layout::units::{PairUnit, SectionUnit, section_units, units_text};
 use crate::source::layout::{LaidOut, Loss};
 use crate::source::{Source, is_same_name};
@@ -280,5 +280,5 @@ fn says_same_pair(
     if !have_same_comments(alloc, unit.above, other.above)? {
         return Ok(false);
     }
-    have_same_comments(alloc, unit.rest, other.rest)
+    have_same_comments_behind(alloc, (unit.pair, unit.rest), (other.pair, other.rest))
 }

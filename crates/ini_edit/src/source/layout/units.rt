@@ -142,7 +142,7 @@ impl<'a> SourcePair<'a> {
         if is_end {
             return "";
         }
-        above_in(self.last_of_source(), self.after())
+        above_in(self.last_of_source('\n'), self.after())
     }
 }
 

@@ -1,13 +1,22 @@
 //! What stands after a pair's value: the end of its line, and what the next line begins with. This file
 //! knows lines, and of a pair its last parts.
-ghost use Rattle.std.specs.Prelude.{◌≡◌, ◌++◌, ◌&&◌, not, None, IfOk, IsOkUnless, OnOk, alloc_error, chars};
-ghost use Rattle.ini_text.specs.Grammar.Positions.{is_column_one};
+ghost use Rattle.std.specs.Prelude.{◌≡◌, ◌∷◌, ◌++◌, ◌&&◌, [], not, List, None, IfOk, IsOkUnless, OnErr};
+ghost use Rattle.std.specs.Prelude.{OnOk};
+ghost use Rattle.std.specs.Prelude.{alloc_error, chars, false, if◌then◌else◌};
+ghost use Rattle.ini_text.specs.Grammar.CharacterKinds.{line_feed};
+ghost use Rattle.ini_text.specs.Grammar.Positions.{is_column_one, last_or};
 ghost use Rattle.ini_text.specs.Parsing.Items.{string_text};
-ghost use Rattle.ini_edit.specs.Inside.SourceEnds.{raw_value_of, with_new_end};
+ghost use Rattle.ini_text.specs.Inside.LineReader.{past_note};
+ghost use Rattle.ini_text.specs.Parsing.Fronts.{front_of};
+ghost use Rattle.ini_edit.specs.Inside.SourceEnds.{ends_of_value, with_new_end, word_of};
 ghost use Rattle.ini_edit.specs.Endings.{ending};
-ghost use Rattle.ini_edit.specs.SourceEditsAdd.{closed_value, ended_lines, is_escape, with_line_ended};
+ghost use Rattle.ini_edit.specs.SourceEditsAdd.{closed_word, ended_lines, is_escape, with_line_ended};
 ghost use Rattle.ini_edit.specs.SourceEditsDelete.{gap_after, line_end_after, lines_after, own_lines};
-ghost use Rattle.ini_edit.specs.SourceEditsDelete.{with_rest};
+ghost use Rattle.ini_edit.specs.SourceEditsDelete.{begin_with_blank, empty_comment, to_line_feed, with_rest};
+ghost use Rattle.ini_edit.specs.SourceEditsDelete.{would_be_taken};
+ghost use Rattle.ini_edit.specs.SourceEditsSet.{with_separator};
+ghost use Rattle.ini_edit.specs.SourcePlaces.{last_word};
+ghost use Rattle.ini_edit.specs.Sources.{PairPiece, has_separator};
 ghost use Rattle.ini_edit.specs.SourceLines.{is_empty};
 
 use crate::append::{push, push_more, push_text};
@@ -15,7 +24,7 @@ use crate::glue::{TextEnd, text_end};
 use crate::source::lines::{after_line_end, is_empty, last_or, line_end_at_end};
 use crate::source::pair::SourcePair;
 use crate::source::quiet_lines::{ends_line, quiet_lines_at_end};
-use ini_text::{Error, ParseOption, front_before};
+use ini_text::{Error, ParseOption, front_before, is_blank, is_line_end, past_note, split_first};
 use std::alloc::Global;
 
 /// What follows a pair's value: the lines that go with the pair, up to the line end after them; quiet lines;
@@ -31,8 +40,9 @@ pub(crate) struct PairEnd<'t> {
 /// A pair's last parts, once a line is put in after it, or lines are.
 #[derive(Debug, Drop)]
 pub(crate) struct NewEnd {
-    /// Another raw value, where the old one ends in a backslash that would take the line end.
-    pub(crate) raw_value: Option<String>,
+    /// Another source of the value, or of a key alone, where the old one ends in a backslash that would take
+    /// the line end.
+    pub(crate) last_word: Option<String>,
     pub(crate) trailing_lines: String,
     pub(crate) after: String,
 }
@@ -45,7 +55,7 @@ impl<'a> SourcePair<'a> {
         ensures lines { chars result.lines.now ≡ lines_after read self.now }
         ensures gap { chars result.gap.now ≡ gap_after read self.now }
     {
-        if read.enabled_indented_mutiline_value {
+        if self.is_multiline(read) {
             let trailing_lines = self.trailing_lines();
             let lines = quiet_lines_at_end(trailing_lines, read);
             let own = front_before(trailing_lines, lines);
@@ -61,12 +71,21 @@ impl<'a> SourcePair<'a> {
                 gap: self.after(),
             };
         }
-        let lines = after_line_end(self.after());
-        let own = front_before(self.after(), lines);
+        let rest = after_line_end(past_note(self.after(), read));
+        let own = front_before(self.after(), rest);
+        let line_end = line_end_at_end(own);
+        if read.enabled_indented_mutiline_value {
+            return PairEnd {
+                own,
+                line_end,
+                lines: "",
+                gap: rest,
+            };
+        }
         PairEnd {
             own,
-            line_end: line_end_at_end(own),
-            lines,
+            line_end,
+            lines: rest,
             gap: "",
         }
     }
@@ -82,31 +101,31 @@ impl<'a> SourcePair<'a> {
             ≡ with_line_ended read (chars line_end.now) self.now) }
         ensures only { IsOkUnless result (Error.Memory alloc_error) }
     {
-        let (raw_value, own) = self.ended_lines(alloc, line_end, read)?;
+        let (last_word, own) = self.ended_lines(alloc, line_end, read)?;
         let nothing = String::new(alloc);
-        if read.enabled_indented_mutiline_value {
+        if self.is_multiline(read) {
             return Ok(NewEnd {
-                raw_value,
+                last_word,
                 trailing_lines: own,
                 after: nothing,
             });
         }
         Ok(NewEnd {
-            raw_value,
+            last_word,
             trailing_lines: nothing,
             after: own,
         })
     }
 
-    // The pair's raw value, where it is another, and its own lines, with its line ended.
+    // The pair's last word, where it is another, and its own lines, with its line ended.
     fn ended_lines(
         &self,
         alloc: Global,
         line_end: &str,
         read: ParseOption,
     ) -> Result<(Option<String>, String), Error>
-        ensures raw_value { IfOk result (λ ended. raw_value_of self.now.stretches.raw_value ended.0
-            ≡ closed_value read self.now) }
+        ensures last_word { IfOk result (λ ended. word_of (last_word self.now) ended.0
+            ≡ closed_word read self.now) }
         ensures lines { IfOk result (λ ended. string_text ended.1
             ≡ ended_lines read (chars line_end.now) self.now) }
         ensures only { IsOkUnless result (Error.Memory alloc_error) }
@@ -117,27 +136,27 @@ impl<'a> SourcePair<'a> {
             return Ok((None, own));
         }
         push_text(&mut own, line_end)?;
-        let raw_value = self.closed_value(alloc, read)?;
-        Ok((raw_value, own))
+        let last_word = self.closed_word(alloc, read)?;
+        Ok((last_word, own))
     }
 
-    /// The raw value with its last backslash made one that stands for itself, where it would take what
-    /// follows.
-    pub(crate) fn closed_value(
+    /// The source of the value, or of a key alone, with its last backslash made one that stands for itself,
+    /// where it would take what follows.
+    pub(crate) fn closed_word(
         &self,
         alloc: Global,
         read: ParseOption,
     ) -> Result<Option<String>, Error>
-        ensures closed { IfOk result (λ raw_value. raw_value_of self.now.stretches.raw_value raw_value
-            ≡ closed_value read self.now) }
+        ensures closed { IfOk result (λ word.
+            word_of (last_word self.now) word ≡ closed_word read self.now) }
         ensures only { IsOkUnless result (Error.Memory alloc_error) }
     {
         if !self.takes_next(read) {
             return Ok(None);
         }
-        let mut raw_value = String::from_str(alloc, self.raw_value())?;
-        push(&mut raw_value, if read.enabled_escape { '\\' } else { ' ' })?;
-        Ok(Some(raw_value))
+        let mut word = String::from_str(alloc, self.last_word())?;
+        push(&mut word, if read.enabled_escape { '\\' } else { ' ' })?;
+        Ok(Some(word))
     }
 
     /// Whether LF, which no backslash takes, ends the pair's last line.
@@ -151,13 +170,14 @@ impl<'a> SourcePair<'a> {
             && last_or('\n', self.trailing_lines()) == '\n'
     }
 
-    // Whether the value's last backslash would take what follows the pair.
+    // Whether the last backslash of the value, or of a key alone, would take what follows the pair.
     fn takes_next(&self, read: ParseOption) -> bool
-        ensures { result ≡ (is_empty self.now.stretches.trailing_lines && (is_empty self.now.after
-            && is_escape (ending read self.now.stretches.raw_value))) }
+        ensures { result ≡ (is_empty self.now.stretches.note && (is_empty self.now.stretches.trailing_lines
+            && (is_empty self.now.after && is_escape (ending read (last_word self.now))))) }
     {
-        is_empty(self.trailing_lines())
-            && (is_empty(self.after()) && ends_in_escape(self.raw_value(), read))
+        is_empty(self.note())
+            && (is_empty(self.trailing_lines())
+                && (is_empty(self.after()) && ends_in_escape(self.last_word(), read)))
     }
 
     /// The pair's last parts with lines and a gap after them, which stood elsewhere.
@@ -174,14 +194,14 @@ impl<'a> SourcePair<'a> {
     {
         let mut trailing_lines = String::from_str(alloc, self.trailing_lines())?;
         let mut after = String::from_str(alloc, self.after())?;
-        if read.enabled_indented_mutiline_value && self.after().is_empty() {
+        if self.is_multiline(read) && self.after().is_empty() {
             push_text(&mut trailing_lines, lines)?;
         } else {
             push_text(&mut after, lines)?;
         }
         push_text(&mut after, gap)?;
         Ok(NewEnd {
-            raw_value: None,
+            last_word: None,
             trailing_lines,
             after,
         })
@@ -201,7 +221,7 @@ impl<'a> SourcePair<'a> {
             ≡ with_rest read (chars line_end.now ++ chars lines.now) (chars gap.now) self.old) }
         ensures only { IsOkUnless result (Error.Memory alloc_error) }
     {
-        if read.enabled_indented_mutiline_value && is_empty(self.after.as_str()) {
+        if self.is_multiline(read) && is_empty(self.after.as_str()) {
             push_more(alloc, &mut self.trailing_lines, line_end)?;
             push_more(alloc, &mut self.trailing_lines, lines)?;
         } else {
@@ -211,17 +231,94 @@ impl<'a> SourcePair<'a> {
         push_more(alloc, &mut self.after, gap)
     }
 
+    /// Whether a multiline value would take what stands after a key alone, whose next pair is indented or
+    /// not.
+    pub(crate) fn would_be_taken(&self, before_blank: bool, read: ParseOption) -> bool
+        ensures { (ps : List PairPiece) → before_blank ≡ begin_with_blank ps
+            → result ≡ would_be_taken read self.now ps }
+    {
+        if self.has_separator() || !read.enabled_indented_mutiline_value {
+            return false;
+        }
+        match split_first(self.end(read).gap) {
+            Some((c, _)) => is_blank(c) || is_line_end(c),
+            None => before_blank,
+        }
+    }
+
+    /// Puts a separator after a key alone, and this value directly after that, before a note that followed.
+    /// Refused, the pair stays.
+    pub(crate) fn put_separator(
+        &mut self,
+        alloc: Global,
+        raw_value: String,
+        value: String,
+        is_taken: bool,
+        read: ParseOption,
+    ) -> Result<(), Error>
+        requires { has_separator self.old ≡ false }
+        ensures put { (ps : List PairPiece) → is_taken ≡ would_be_taken read self.old ps
+            → OnOk result (self.new
+            ≡ with_separator read (string_text raw_value) (string_text value) ps self.old) }
+        ensures unchanged { OnErr result (self.new ≡ self.old) }
+        ensures only { IsOkUnless result (Error.Memory alloc_error) }
+    {
+        let key = self.closed_word(alloc, read)?;
+        let note = self.note_after(alloc, read)?;
+        let (trailing_lines, after) = self.end_of_value(alloc, is_taken, read)?;
+        self.put_first_value(key, raw_value, value, note);
+        self.put_end(trailing_lines, after);
+        Ok(())
+    }
+
+    // The note with which what follows a key alone begins.
+    fn note_after(&self, alloc: Global, read: ParseOption) -> Result<String, Error>
+        ensures note { IfOk result (λ note. string_text note
+            ≡ front_of self.now.after (past_note read self.now.after)) }
+        ensures only { IsOkUnless result (Error.Memory alloc_error) }
+    {
+        let rest = past_note(self.after(), read);
+        Ok(String::from_str(alloc, front_before(self.after(), rest))?)
+    }
+
+    // What stands after the line of a key alone and its note, once a value stands in that line: of a
+    // multiline value its line end, and what follows.
+    fn end_of_value(
+        &self,
+        alloc: Global,
+        is_taken: bool,
+        read: ParseOption,
+    ) -> Result<(String, String), Error>
+        requires { has_separator self.now ≡ false }
+        ensures ends { IfOk result (λ end. (string_text end.0, string_text end.1)
+            ≡ ends_of_value read is_taken self.now) }
+        ensures only { IsOkUnless result (Error.Memory alloc_error) }
+    {
+        let rest = past_note(self.after(), read);
+        if !read.enabled_indented_mutiline_value {
+            return Ok((String::new(alloc), String::from_str(alloc, rest)?));
+        }
+        let gap = after_line_end(rest);
+        let end = front_before(rest, gap);
+        let mut lines = String::from_str(alloc, end)?;
+        if !is_taken {
+            return Ok((lines, String::from_str(alloc, gap)?));
+        }
+        push_text(&mut lines, to_line_feed(last_or('\n', end)))?;
+        Ok((lines, after_empty_comment(alloc, "\n", gap)?))
+    }
+
     /// Puts the new last parts in.
     pub(crate) fn put_new_end(&mut self, end: NewEnd)
         ensures { self.new ≡ with_new_end end self.old }
     {
         let NewEnd {
-            raw_value,
+            last_word,
             trailing_lines,
             after,
         } = end;
-        if let Some(raw_value) = raw_value {
-            self.put_raw_value(raw_value);
+        if let Some(word) = last_word {
+            self.put_last_word(word);
         }
         self.put_end(trailing_lines, after);
     }
@@ -232,4 +329,23 @@ fn ends_in_escape(text: &str, read: ParseOption) -> bool
     ensures { result ≡ is_escape (ending read (chars text.now)) }
 {
     matches!(text_end(text, read), TextEnd::Escape)
+}
+
+/// What a text that ends so lacks for a comment in column one after it.
+pub(crate) fn to_line_feed(last: char) -> &'static str
+    ensures { chars result.now ≡ to_line_feed last }
+{
+    if last == '\n' { "" } else { "\n" }
+}
+
+/// A gap after an empty comment.
+pub(crate) fn after_empty_comment(alloc: Global, line_end: &str, gap: &str) -> Result<String, Error>
+    ensures text { IfOk result (λ text. string_text text
+        ≡ empty_comment (chars line_end.now) ++ chars gap.now) }
+    ensures only { IsOkUnless result (Error.Memory alloc_error) }
+{
+    let mut text = String::from_str(alloc, ";")?;
+    push_text(&mut text, line_end)?;
+    push_text(&mut text, gap)?;
+    Ok(text)
 }

@@ -35,6 +35,7 @@ impl<'a> SourcePair<'a> {
             space_before: owned_text(alloc, self.space_before.as_str())?,
             raw_value: owned_text(alloc, self.raw_value.as_str())?,
             space_after: owned_text(alloc, self.space_after.as_str())?,
+            note: owned_text(alloc, self.note.as_str())?,
             trailing_lines: owned_text(alloc, self.trailing_lines.as_str())?,
             after: owned_text(alloc, self.after.as_str())?,
         })

@@ -7,6 +7,7 @@ ghost use Rattle.ini_text.specs.Options.WriteOptions.{line_end};
 ghost use Rattle.ini_text.specs.Parsing.Items.{string_text};
 ghost use Rattle.ini.specs.Texts.{str_text};
 ghost use Rattle.ini_edit.specs.Inside.SourceEnds.{IsPlaceAt, PutsOr, end_put, end_put_at, put_over_kept};
+ghost use Rattle.ini_edit.specs.Inside.SourceEnds.{takes_lines};
 ghost use Rattle.ini_edit.specs.SourceEditsAdd.{would_go_on};
 ghost use Rattle.ini_edit.specs.SourceEditsComments.{comment_put, comments_over, lines_of_comment, marked};
 ghost use Rattle.ini_edit.specs.SourceEditsComments.{pair_commented_out, pair_lines};
@@ -74,13 +75,12 @@ impl<'a> SourceSection<'a> {
         is_empty(comments) && is_empty(kept) && index > 0 && self.would_go_on(index, read)
     }
 
-    // Whether a multiline value stands directly before the gap there, of which this is kept.
-    fn follows_value(&self, kept: &str, index: usize, read: ParseOption) -> bool
+    // Whether a multiline value takes the lines after what is kept of the gap before the index.
+    fn takes_lines_at(&self, kept: &str, index: usize, read: ParseOption) -> bool
         requires { index ≤ length self.now.pairs }
-        ensures { result ≡ (read.enabled_indented_mutiline_value
-            && (not (is_nil (take index self.now.pairs)) && is_empty (chars kept.now))) }
+        ensures { result ≡ takes_lines read (chars kept.now) (take index self.now.pairs) }
     {
-        read.enabled_indented_mutiline_value && index > 0 && is_empty(kept)
+        is_empty(kept) && self.ends_in_value(index, read)
     }
 
     // The last parts of what stands before the pair at the index: what is kept of the gap there, a line end
@@ -104,7 +104,7 @@ impl<'a> SourceSection<'a> {
     {
         let mut trailing_lines = self.trailing_lines_before(alloc, index)?;
         let mut after = String::from_str(alloc, kept)?;
-        if self.follows_value(kept, index, read) {
+        if self.takes_lines_at(kept, index, read) {
             push_text(&mut trailing_lines, lines)?;
         } else {
             push_text(&mut after, lines)?;
@@ -112,7 +112,7 @@ impl<'a> SourceSection<'a> {
         push_text(&mut after, comments)?;
         push_text(&mut after, line_end_lacking(comments, end))?;
         Ok(NewEnd {
-            raw_value: None,
+            last_word: None,
             trailing_lines,
             after,
         })
@@ -175,9 +175,7 @@ impl<'a> SourcePair<'a> {
         let end = self.end(read);
         let mut lines = String::new(alloc);
         self.push_line(&mut lines)?;
-        if read.enabled_indented_mutiline_value {
-            push_text(&mut lines, front_before(end.own, end.line_end))?;
-        }
+        push_text(&mut lines, front_before(end.own, end.line_end))?;
         Ok(lines)
     }
 }

@@ -2,20 +2,21 @@
 //! knows lines.
 ghost use Rattle.std.specs.Prelude.{◌≡◌, ◌++◌, ◌∷◌, ◌&&◌, ◌||◌, if◌then◌else◌, not, List, IfOk, IsOkUnless};
 ghost use Rattle.std.specs.Prelude.{[], alloc_error, chars, length};
-ghost use Rattle.ini_text.specs.Grammar.CharacterKinds.{is_blank, is_comment_mark, is_line_end, is_line_feed};
+ghost use Rattle.ini_text.specs.Grammar.CharacterKinds.{is_blank, is_comment_mark, is_line_end};
+ghost use Rattle.ini_text.specs.Grammar.CharacterKinds.{is_line_feed};
 ghost use Rattle.ini_text.specs.Grammar.Positions.{is_column_one};
-ghost use Rattle.ini_text.specs.Inside.PlainTests.{begins};
+ghost use Rattle.ini_text.specs.Grammar.CharacterKinds.{begins};
 ghost use Rattle.ini_text.specs.Options.WriteOptions.{line_end};
 ghost use Rattle.ini_text.specs.Parsing.Fronts.{front_of};
 ghost use Rattle.ini_text.specs.Parsing.Items.{string_text};
 ghost use Rattle.ini.specs.Texts.{Text, str_text};
-ghost use Rattle.ini_edit.specs.Inside.SourceEnds.{IsKept, end_put_last, raw_value_of, takes_lines};
-ghost use Rattle.ini_edit.specs.SourceEditsAdd.{closed_value};
+ghost use Rattle.ini_edit.specs.Inside.SourceEnds.{IsKept, end_put_last, takes_lines, word_of};
+ghost use Rattle.ini_edit.specs.SourceEditsAdd.{closed_word};
 ghost use Rattle.ini_edit.specs.SourceEditsSections.{ended_for_section, ends_empty, is_ended_for};
 ghost use Rattle.ini_edit.specs.SourceEditsSections.{is_pair_ended, line_end_before, rest_before_header};
 ghost use Rattle.ini_edit.specs.SourceEditsSections.{section_rest, with_rest_of_next};
 ghost use Rattle.ini_edit.specs.SourceLines.{is_empty};
-ghost use Rattle.ini_edit.specs.SourcePlaces.{is_nil, last_before_gap, last_gap};
+ghost use Rattle.ini_edit.specs.SourcePlaces.{is_nil, last_before_gap, last_gap, last_word};
 ghost use Rattle.ini_edit.specs.Sources.{PairPiece, section_text};
 
 use crate::append::push_text;
@@ -157,7 +158,7 @@ impl<'a> SourceSection<'a> {
     fn takes_lines(&self, kept: &str, read: ParseOption) -> bool
         ensures { result ≡ takes_lines read (chars kept.now) self.now.pairs }
     {
-        read.enabled_indented_mutiline_value && (is_empty(kept) && self.has_pairs())
+        is_empty(kept) && self.ends_in_value(self.count(), read)
     }
 
     // The last parts of the section with another last gap: what is kept of it, lines, and the rest.
@@ -182,7 +183,7 @@ impl<'a> SourceSection<'a> {
         }
         push_text(&mut after, rest)?;
         Ok(NewEnd {
-            raw_value: None,
+            last_word: None,
             trailing_lines,
             after,
         })
@@ -204,39 +205,38 @@ impl<'a> SourceSection<'a> {
         let text = self.text_before(alloc, before)?;
         let is_ended = self.is_ended_for(text.as_str(), before, read);
         let lines = lines_between(alloc, text, is_ended, end)?;
-        let raw_value = self.last_closed(alloc, !is_ended, read)?;
+        let last_word = self.last_closed(alloc, !is_ended, read)?;
         let kept = self.gap_put(alloc, before, lines.as_str(), "", read)?;
         let NewEnd {
-            raw_value: none,
+            last_word: none,
             trailing_lines,
             after,
         } = kept;
         drop(none);
         Ok(NewEnd {
-            raw_value,
+            last_word,
             trailing_lines,
             after,
         })
     }
 
-    // The last pair's raw value, where it is closed and is another then.
+    // The source of the last pair's value, or of a key alone, where it is closed and is another then.
     fn last_closed(
         &self,
         alloc: Global,
         closes: bool,
         read: ParseOption,
     ) -> Result<Option<String>, Error>
-        ensures closed { IfOk result (λ raw_value. (front : List PairPiece) (p : PairPiece)
+        ensures closed { IfOk result (λ word. (front : List PairPiece) (p : PairPiece)
             → self.now.pairs ≡ front ++ p ∷ []
-            → raw_value_of p.stretches.raw_value raw_value
-            ≡ (if closes then closed_value read p else p.stretches.raw_value)) }
+            → word_of (last_word p) word ≡ (if closes then closed_word read p else last_word p)) }
         ensures only { IsOkUnless result (Error.Memory alloc_error) }
     {
         if !closes {
             return Ok(None);
         }
         match self.count().checked_sub(1) {
-            Some(last) => self.pairs[last].closed_value(alloc, read),
+            Some(last) => self.pairs[last].closed_word(alloc, read),
             None => Ok(None),
         }
     }

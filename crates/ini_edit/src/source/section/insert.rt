@@ -1,11 +1,13 @@
 //! A pair put into a section. This file knows what follows a pair or a header, and no text of the pair.
-ghost use Rattle.std.specs.Prelude.{◌≡◌, ◌==◌, ◌+◌, ◌<◌, ◌≤◌, ◌||◌, ◌++◌, [], IfErr, IfOk, IsOkUnless, OnErr};
+ghost use Rattle.std.specs.Prelude.{◌≡◌, ◌==◌, ◌+◌, ◌<◌, ◌≤◌, ◌||◌, ◌++◌, [], IfErr, IfOk, IsOkUnless};
+ghost use Rattle.std.specs.Prelude.{OnErr};
 ghost use Rattle.std.specs.Prelude.{OnOk, Some, alloc_error, chars, if◌then◌else◌, length, not, take};
 ghost use Rattle.ini_text.specs.Options.WriteOptions.{line_end};
 ghost use Rattle.ini_text.specs.Parsing.Items.{string_text};
 ghost use Rattle.ini_edit.specs.Inside.SourceEnds.{IsNoPlaceOrMemory, IsPlaceAt, made_pair, place_of};
 ghost use Rattle.ini_edit.specs.Inside.SourceEnds.{trailing_of};
-ghost use Rattle.ini_edit.specs.SourceEditsAdd.{end_after, end_at, pair_put_after, pair_put_before};
+ghost use Rattle.ini_edit.specs.SourceEditsAdd.{end_after, end_at, made_after, pair_put_after};
+ghost use Rattle.ini_edit.specs.SourceEditsAdd.{pair_put_before};
 ghost use Rattle.ini_edit.specs.SourceEditsAdd.{pair_put_last, would_go_on};
 ghost use Rattle.ini_edit.specs.SourceEditsDelete.{line_end_after};
 ghost use Rattle.ini_edit.specs.SourceLines.{is_empty};
@@ -15,7 +17,8 @@ ghost use Rattle.ini_edit.specs.Sources.{PairPiece};
 use crate::append::push_text;
 use crate::error::EditError;
 use crate::source::lines::{comments_at_end, is_empty, last_or};
-use crate::source::pair::ends::{NewEnd, PairEnd};
+use crate::source::pair::SourcePair;
+use crate::source::pair::ends::{NewEnd, PairEnd, after_empty_comment};
 use crate::source::place::{GapPlace, place_for_first};
 use crate::source::section::SourceSection;
 use crate::source::written::{NewPair, is_indented};
@@ -62,16 +65,39 @@ impl<'a> SourceSection<'a> {
         ensures unchanged { OnErr result (self.new ≡ self.old) }
         ensures only { IsOkUnless result (Error.Memory alloc_error) }
     {
-        let old = self.pairs[index].end(read);
-        let lines = ended(alloc, end_after(end, old, read), old.lines)?;
-        let is_indented = !read.enabled_indented_mutiline_value;
-        let pair = pair.before(alloc, is_indented, lines, old.gap, read)?;
+        let pair = self.made_after(alloc, index, pair, end, read)?;
         let new = self.pairs[index].with_line_end(alloc, end.as_str(), read)?;
         self.pairs
             .insert(index + 1, pair)
             .map_err(AllocError::from)?;
         self.pairs[index].put_new_end(new);
         Ok(())
+    }
+
+    // A new pair as it stands directly after the one at the index.
+    fn made_after(
+        &self,
+        alloc: Global,
+        index: usize,
+        pair: NewPair<'a>,
+        end: LineSeparator,
+        read: ParseOption,
+    ) -> Result<SourcePair<'a>, Error>
+        requires { index < length self.now.pairs }
+        ensures made { (p : Place PairPiece) → IsPlaceAt self.now.pairs p index → IfOk result (λ new. new
+            ≡ made_after read (line_end end) (made_pair read pair.entry) p.here p.after) }
+        ensures only { IsOkUnless result (Error.Memory alloc_error) }
+    {
+        let before = &self.pairs[index];
+        let old = before.end(read);
+        if before.would_be_taken(self.is_before_blank(index), read) {
+            let lines = String::from_str(alloc, end.as_str())?;
+            let gap = after_empty_comment(alloc, end.as_str(), old.gap)?;
+            return pair.before(alloc, false, lines, gap.as_str(), read);
+        }
+        let lines = ended(alloc, end_after(end, old, read), old.lines)?;
+        let is_indented = !read.enabled_indented_mutiline_value;
+        pair.before(alloc, is_indented, lines, old.gap, read)
     }
 
     /// The index after that of a pair.
@@ -138,14 +164,15 @@ impl<'a> SourceSection<'a> {
             return Err(EditError::NoPlace);
         }
         let kept = front_before(gap, comments);
+        let starts = is_line_end(last_or(before_gap, kept));
+        let after = with_line_end(alloc, kept, starts, end)?;
+        let trailing_lines = self.trailing_lines_before(alloc, index)?;
         let lines = ended(alloc, end.as_str(), "")?;
         let is_indented = may_be_indented(read, index, kept);
         let pair = pair.before(alloc, is_indented, lines, comments, read)?;
-        let starts = is_line_end(last_or(before_gap, kept));
-        let after = with_line_end(alloc, kept, starts, end)?;
         let new = NewEnd {
-            raw_value: None,
-            trailing_lines: self.trailing_lines_before(alloc, index)?,
+            last_word: None,
+            trailing_lines,
             after,
         };
         self.pairs.insert(index, pair).map_err(AllocError::from)?;
@@ -175,12 +202,12 @@ impl<'a> SourceSection<'a> {
     }
 }
 
-// The line end of a new pair after one of this end: CR alone after that, where indented comments are on.
+// The line end of a new pair after one of this end: CR alone after that, where notes may stand behind it.
 fn end_after(end: LineSeparator, old: PairEnd<'_>, read: ParseOption) -> &'static str
     ensures { (p : PairPiece) → chars old.entry.line_end.now ≡ line_end_after read p
         → chars result.now ≡ end_after read (line_end end) p }
 {
-    if read.enabled_indented_comment && last_or('\n', old.line_end) == '\r' {
+    if read.may_have_note("\r") && last_or('\n', old.line_end) == '\r' {
         return "\r";
     }
     end.as_str()

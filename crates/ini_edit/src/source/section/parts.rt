@@ -1,24 +1,25 @@
 //! The parts of a section, one by one. This file knows no text of a part.
-ghost use Rattle.std.specs.Prelude.{◌≡◌, ◌++◌, ◌≤◌, ◌<◌, List, [], Some, IfOk, IsOkUnless, OnOk, alloc_error};
-ghost use Rattle.std.specs.Prelude.{chars, length};
-ghost use Rattle.std.specs.Prelude.{get_or, set, take};
+ghost use Rattle.std.specs.Prelude.{◌≡◌, ◌++◌, ◌≤◌, ◌<◌, List, [], Some, IfOk, IsOkUnless, OnErr};
+ghost use Rattle.std.specs.Prelude.{◌+◌, OnOk, alloc_error, chars, drop, false, get_or, length, set, take};
 ghost use Rattle.std.specs.Option.{option_map};
 ghost use Rattle.ini.specs.Texts.{Text, is_text, str_text};
 ghost use Rattle.ini_text.specs.Grammar.Positions.{last_or};
 ghost use Rattle.ini_text.specs.Parsing.Items.{cow_text, string_text};
-ghost use Rattle.ini_edit.specs.Inside.SourceEnds.{IsNthAt, end_put, end_put_at, style_before, style_of};
+ghost use Rattle.ini_edit.specs.Inside.SourceEnds.{IsNthAt, IsPlaceAt, end_put, end_put_at, pair_changed_in};
+ghost use Rattle.ini_edit.specs.Inside.SourceEnds.{style_before, style_of};
 ghost use Rattle.ini_edit.specs.Inside.SourceSearches.{IsSearched};
 ghost use Rattle.ini_edit.specs.SourceEdits.{with_pairs, with_value};
-ghost use Rattle.ini_edit.specs.SourceEditsDelete.{rest_put};
-ghost use Rattle.ini_edit.specs.SourcePlaces.{gap_of, last_before_gap, text_up_to, with_after};
-ghost use Rattle.ini_edit.specs.Sources.{PairPiece, section_text};
+ghost use Rattle.ini_edit.specs.SourceEditsDelete.{begin_with_blank, ends_in_value, follows_value, rest_put};
+ghost use Rattle.ini_edit.specs.SourceEditsSet.{with_separator};
+ghost use Rattle.ini_edit.specs.SourcePlaces.{Place, gap_of, last_before_gap, text_up_to, with_after};
+ghost use Rattle.ini_edit.specs.Sources.{PairPiece, has_separator, section_text};
 
 use crate::append::{push_more, push_text};
-use crate::source::lines::{LineEndSearch, last_or};
+use crate::source::lines::{LineEndSearch, is_empty, last_or};
 use crate::source::pair::SourcePair;
 use crate::source::pair::ends::NewEnd;
 use crate::source::section::SourceSection;
-use crate::source::written::PairStyle;
+use crate::source::written::{PairStyle, is_indented};
 use ini_text::{Error, ParseOption, is_line_end, is_same_text};
 use std::alloc::{AllocError, Global};
 use std::borrow::CowStr;
@@ -66,6 +67,29 @@ impl<'a> SourceSection<'a> {
         self.pairs[index].put_value(raw_value, value);
     }
 
+    /// Puts a separator after the key alone at the index, and this value after that. Refused, the section
+    /// stays.
+    pub(crate) fn put_separator_at(
+        &mut self,
+        alloc: Global,
+        index: usize,
+        raw_value: String,
+        value: String,
+        read: ParseOption,
+    ) -> Result<(), Error>
+        requires index { index < length self.old.pairs }
+        requires lone { (p : Place PairPiece) → IsPlaceAt self.old.pairs p index
+            → has_separator p.here ≡ false }
+        ensures put { (p : Place PairPiece) → IsPlaceAt self.old.pairs p index → OnOk result (self.new
+            ≡ pair_changed_in (with_separator read (string_text raw_value) (string_text value) p.after)
+            self.old p) }
+        ensures unchanged { OnErr result (self.new ≡ self.old) }
+        ensures only { IsOkUnless result (Error.Memory alloc_error) }
+    {
+        let is_taken = self.pairs[index].would_be_taken(self.is_before_blank(index), read);
+        self.pairs[index].put_separator(alloc, raw_value, value, is_taken, read)
+    }
+
     pub(crate) fn put_after(&mut self, after: String)
         ensures { self.new ≡ with_after (string_text after) self.old }
     {
@@ -88,10 +112,15 @@ impl<'a> SourceSection<'a> {
         requires { index ≤ length self.now.pairs }
         ensures { result ≡ last_before_gap front self.now (take index self.now.pairs) }
     {
-        match index.checked_sub(1) {
-            Some(before) => self.pairs[before].last_of_source(),
-            None => last_or(front, self.header()),
+        let Some(before) = index.checked_sub(1) else {
+            return last_or(front, self.header());
+        };
+        let pair = &self.pairs[before];
+        if !pair.is_empty() {
+            return pair.last_of_source(front);
         }
+        let gap = last_or(self.last_before_gap(front, before), self.gap_before(before));
+        pair.last_of_source(gap)
     }
 
     /// The last character before the pair at the index.
@@ -100,6 +129,36 @@ impl<'a> SourceSection<'a> {
         ensures { result ≡ last_or front (text_up_to self.now (take index self.now.pairs)) }
     {
         last_or(self.last_before_gap(front, index), self.gap_before(index))
+    }
+
+    /// Whether a multiline value stands directly before the pair at the index.
+    pub(crate) fn follows_value(&self, index: usize, read: ParseOption) -> bool
+        requires { index ≤ length self.now.pairs }
+        ensures { result ≡ follows_value read (take index self.now.pairs) }
+    {
+        self.ends_in_value(index, read) && is_empty(self.gap_before(index))
+    }
+
+    /// Whether the pair before the index is there, and goes on over lines.
+    pub(crate) fn ends_in_value(&self, index: usize, read: ParseOption) -> bool
+        requires { index ≤ length self.now.pairs }
+        ensures { result ≡ ends_in_value read (take index self.now.pairs) }
+    {
+        match index.checked_sub(1) {
+            Some(before) => self.pairs[before].is_multiline(read),
+            None => false,
+        }
+    }
+
+    /// Whether there is a pair after the index, and it is indented.
+    pub(crate) fn is_before_blank(&self, index: usize) -> bool
+        requires { index < length self.now.pairs }
+        ensures { result ≡ begin_with_blank (drop (index + 1) self.now.pairs) }
+    {
+        match self.pairs.get(index + 1) {
+            Some(next) => is_indented(next),
+            None => false,
+        }
     }
 
     /// The last character of the section; `front` is that of what stands before it.
@@ -147,7 +206,7 @@ impl<'a> SourceSection<'a> {
         push_text(&mut after, lines)?;
         push_text(&mut after, gap)?;
         Ok(NewEnd {
-            raw_value: None,
+            last_word: None,
             trailing_lines: String::new(alloc),
             after,
         })
@@ -184,11 +243,11 @@ impl<'a> SourceSection<'a> {
             Some(before) => self.pairs[before].put_new_end(end),
             None => {
                 let NewEnd {
-                    raw_value,
+                    last_word,
                     trailing_lines,
                     after,
                 } = end;
-                drop(raw_value);
+                drop(last_word);
                 drop(trailing_lines);
                 self.put_after(after);
             }
@@ -233,7 +292,7 @@ impl<'a> SourceSection<'a> {
         })
     }
 
-    /// How the last pair before the index is written that begins a line.
+    /// How the last pair before the index is written that begins a line and has a separator.
     pub(crate) fn style_before(
         &self,
         front: char,
@@ -245,8 +304,9 @@ impl<'a> SourceSection<'a> {
     {
         let mut left = index;
         'pairs: while let Some(before) = left.checked_sub(1) {
-            if is_line_end(self.last_before(front, before)) {
-                return Some(self.pairs[before].style(read));
+            let pair = &self.pairs[before];
+            if is_line_end(self.last_before(front, before)) && pair.has_separator() {
+                return Some(pair.style(read));
             }
             left = before;
         }

@@ -6,8 +6,8 @@ use Rattle.ini_text.specs.Inside.PlainTests.{is_plain_name}
 use Rattle.ini_text.proofs.PlainLemmas.PlainTestLemmas.{name_decides}
 use Rattle.ini_text.proofs.plain.is_plain_name.Goals as goal
 
-pub returns-then-has_no_close_bracket : goal.returns-then-has_no_close_bracket
-returns-then-has_no_close_bracket c =
+pub returns-then-has_no_name_end : goal.returns-then-has_no_name_end
+returns-then-has_no_name_end c =
     let tested : c.is_read_back.result ≡ is_plain_name c.args.read c.args.policy (chars c.args.name.now) =
     grind (arith, common_steps) in
     Decides-at _ _

@@ -18,7 +18,7 @@ returns-then-is_read_back c =
 
 pub returns-else-is_read_back : goal.returns-else-is_read_back
 returns-else-is_read_back c =
-    let tested : c.if-is_plain_key.value ≡ is_plain_pair c.args.read c.args.policy (chars c.args.key.now)
+    let tested : c.if-not-has_key_note.value ≡ is_plain_pair c.args.read c.args.policy (chars c.args.key.now)
     (chars c.args.value.now) = grind (arith, common_steps) in
     Decides-at _ _ tested (pair_decides c.args.read c.args.policy (chars c.args.key.now)
     (chars c.args.value.now) (scalars-chars _ c.utf8.key) (scalars-chars _ c.utf8.value))

@@ -2,7 +2,7 @@ use Rattle.std.proofs.Common.{◌==◌, ◌≡◌, ◌≤◌, ◌||◌, ◌∙�
 use Rattle.std.proofs.lemmas.Bool.Decides.{nat_tests}
 use Rattle.std.specs.List.{prefix_len}
 use Rattle.ini_text.specs.Grammar.CharacterKinds.{carriage_return, line_feed}
-use Rattle.ini_text.specs.Inside.ValueReader.{is_line_part}
+use Rattle.ini_text.specs.Inside.Scans.{is_line_part}
 use Rattle.ini_text.proofs.StringLemmas.RunLemmas.{boundary, run_skipped}
 use Rattle.ini_text.proofs.StringLemmas.LaneLemmas.{same_run}
 use Rattle.ini_text.proofs.text.skip_note.Goals as goal

@@ -23,6 +23,7 @@ fn pieces() -> &'static [&'static str] {
         "[",
         "#c",
         "\n#c\n",
+        " ;n",
         ";",
         "\\",
         "\\\n",
@@ -78,7 +79,7 @@ impl Random {
     /// Some of the options' letters.
     pub(crate) fn letters(&mut self, alloc: Global) -> Result<String, Error> {
         let mut letters = String::new(alloc);
-        for letter in &["q", "e", "m", "k", "b", "r", "l", "c"] {
+        for letter in &["q", "e", "m", "k", "b", "r", "l", "a", "c", "n"] {
             if self.is_even() {
                 letters.push_str(letter)?;
             }

@@ -1,11 +1,12 @@
 //! Documents, and answers of edits, as texts.
-use ini::{Error, Ini, ParseOption};
+use ini::{Error, Ini, ParseError, ParseOption};
 use ini_edit::EditError;
 use ini_text::LoneLine;
 use std::alloc::Global;
 
 /// What a letter turns on: quotes, escapes, multiline values, kept indentation, brackets in names, raw
-/// backslashes, indented comments, and that lines without separator are refused.
+/// backslashes, indented comments, notes, and that lines without separator are refused, or else that they are
+/// keys alone.
 pub(crate) fn options_of(letters: &str) -> ParseOption {
     ParseOption {
         enabled_quote: letters.contains('q'),
@@ -15,12 +16,23 @@ pub(crate) fn options_of(letters: &str) -> ParseOption {
         enabled_brackets_in_section_names: letters.contains('b'),
         enabled_raw_backslash: letters.contains('r'),
         enabled_indented_comment: letters.contains('c'),
+        enabled_inline_comment: letters.contains('n'),
         line_without_separator: if letters.contains('l') {
             LoneLine::Refused
+        } else if letters.contains('a') {
+            LoneLine::Key
         } else {
             LoneLine::RunsOn
         },
     }
+}
+
+/// Puts the parts last, one after another.
+pub(crate) fn put(out: &mut String, parts: &[&str]) -> Result<(), Error> {
+    for part in parts {
+        out.push_str(part)?;
+    }
+    Ok(())
 }
 
 /// The sections in order: each a name in brackets, or `general`, and its pairs.
@@ -29,23 +41,25 @@ pub(crate) fn shown(alloc: Global, document: &Ini) -> Result<String, Error> {
     for (name, section) in document {
         match name {
             None => out.push_str("general")?,
-            Some(name) => out.push_str(format!(in alloc; " [{name}]")?.as_str())?,
+            Some(name) => put(&mut out, &[" [", name, "]"])?,
         }
         for (key, value) in section {
-            out.push_str(format!(in alloc; " <{key}|{value}>")?.as_str())?;
+            put(&mut out, &[" <", key, "|", value, ">"])?;
         }
     }
     Ok(out)
 }
 
-/// What loading the text shows: its sections, or its refusal's kind, line and column.
+/// A refusal's kind, line and column.
+pub(crate) fn refusal(alloc: Global, fault: &ParseError) -> Result<String, Error> {
+    Ok(format!(in alloc; "{:?} at {}:{}", fault.kind, fault.line, fault.col)?)
+}
+
+/// What loading the text shows: its sections, or its refusal.
 pub(crate) fn loaded(alloc: Global, letters: &str, text: &str) -> Result<String, Error> {
     match Ini::load_from_str_opt(alloc, text, options_of(letters)) {
         Ok(document) => shown(alloc, &document),
-        Err(Error::Parse(fault)) => Ok(format!(in alloc;
-            "{:?} at {}:{}",
-            fault.kind, fault.line, fault.col
-        )?),
+        Err(Error::Parse(fault)) => refusal(alloc, &fault),
         Err(other) => Err(other),
     }
 }
@@ -57,11 +71,8 @@ pub(crate) fn reported(
 ) -> Result<String, Error> {
     match answer {
         Ok(Some(new)) => Ok(new),
-        Ok(None) => Ok(format!(in alloc; "none")?),
-        Err(EditError::Text(Error::Parse(fault))) => Ok(format!(in alloc;
-            "{:?} at {}:{}",
-            fault.kind, fault.line, fault.col
-        )?),
+        Ok(None) => Ok(String::from_str(alloc, "none")?),
+        Err(EditError::Text(Error::Parse(fault))) => refusal(alloc, &fault),
         Err(EditError::Text(other)) => Err(other),
         Err(other) => Ok(format!(in alloc; "{other:?}")?),
     }

@@ -1,11 +1,17 @@
 //! Edits of texts in pieces, by their names: what each makes of a text, and whether the text read anew shows
 //! what the pieces do.
 use super::random::Random;
-use super::show::{options_of, reported};
+use super::show::{options_of, put, reported};
+use super::source_pairs::{
+    AFTER_KEYS_ALONE, BESIDE_OTHERS, DELETED_PAIRS, KEYS_ALONE, NEW_PAIRS, NOTED_KEYS,
+    NOTED_VALUES, REPEATED_KEYS, VALUES,
+};
+use super::source_sections::{
+    COMMENTS, DELETED_SECTIONS, FIRST_PAIRS, NEW_SECTIONS, NOTED_HEADERS, RENAMED,
+};
 use ini::{Error, WriteOption};
 use ini_edit::{EditError, LaterPairs, Source};
 use std::alloc::Global;
-use std::process::Abort;
 use std::test::Fail;
 
 /// A call, the letters of the options, its words, the text, and what the call makes of it or answers. The
@@ -29,13 +35,6 @@ pub(crate) struct Words<'a> {
     pub(crate) number: usize,
 }
 
-/// What a call answers: whether it found something, or a text.
-#[derive(Debug, Drop)]
-enum Answer {
-    Found(bool),
-    Text(Option<String>),
-}
-
 fn words_of(words: &str) -> Words<'_> {
     let mut parts = words.split('|');
     let name = parts.next().unwrap_or("-");
@@ -48,22 +47,18 @@ fn words_of(words: &str) -> Words<'_> {
     }
 }
 
-fn done(made: Result<(), EditError>) -> Result<Answer, EditError> {
+fn done(made: Result<(), EditError>) -> Result<bool, EditError> {
     made?;
-    Ok(Answer::Found(true))
+    Ok(true)
 }
 
-fn found(found: Result<bool, EditError>) -> Result<Answer, EditError> {
-    Ok(Answer::Found(found?))
-}
-
-/// Makes a call that is about a pair.
+/// Makes a call that is about a pair, and answers whether it found something.
 fn edited(
     alloc: Global,
     source: &mut Source<'_>,
     call: &str,
     words: Words<'_>,
-) -> Result<Answer, EditError> {
+) -> Result<bool, EditError> {
     let write = &WriteOption::default();
     let policy = write.escape_policy;
     let Words {
@@ -77,9 +72,9 @@ fn edited(
         "set" => done(source.set(alloc, write, LaterPairs::TakenOut, name, key, value)),
         "set_first" => done(source.set(alloc, write, LaterPairs::Left, name, key, value)),
         "set_existing" => {
-            found(source.set_existing(alloc, policy, LaterPairs::TakenOut, name, key, value))
+            source.set_existing(alloc, policy, LaterPairs::TakenOut, name, key, value)
         }
-        "set_nth" => found(source.set_nth(alloc, policy, name, key, number, value)),
+        "set_nth" => source.set_nth(alloc, policy, name, key, number, value),
         "set_all" => {
             let mut values = Vec::new(alloc);
             for value in value.split('/') {
@@ -88,15 +83,11 @@ fn edited(
             done(source.set_all(alloc, write, name, key, values.as_slice()))
         }
         "add" => done(source.add(alloc, write, name, key, value)),
-        "insert_after" => found(source.insert_after(alloc, write, name, key, other, value)),
-        "insert_before" => found(source.insert_before(alloc, write, name, key, other, value)),
-        "rename_key" => found(source.rename_key(alloc, policy, name, key, other)),
-        "comment_out" => found(source.comment_out(alloc, name, key)),
-        "set_comment" => found(source.set_comment(alloc, write, name, key, value)),
-        "comment_of" => match source.comment_of(name, key) {
-            Some(comment) => Ok(Answer::Text(Some(String::from_str(alloc, comment)?))),
-            None => Ok(Answer::Text(None)),
-        },
+        "insert_after" => source.insert_after(alloc, write, name, key, other, value),
+        "insert_before" => source.insert_before(alloc, write, name, key, other, value),
+        "rename_key" => source.rename_key(alloc, policy, name, key, other),
+        "comment_out" => source.comment_out(alloc, name, key),
+        "set_comment" => source.set_comment(alloc, write, name, key, value),
         _ => taken_out(alloc, source, call, words),
     }
 }
@@ -107,7 +98,7 @@ fn taken_out(
     source: &mut Source<'_>,
     call: &str,
     words: Words<'_>,
-) -> Result<Answer, EditError> {
+) -> Result<bool, EditError> {
     let write = &WriteOption::default();
     let Words {
         name,
@@ -118,22 +109,25 @@ fn taken_out(
     } = words;
     let section = name.unwrap_or("");
     match call {
-        "delete" => Ok(Answer::Found(source.delete(alloc, name, key)?)),
-        "delete_nth" => Ok(Answer::Found(source.delete_nth(alloc, name, key, number)?)),
-        "delete_all" => Ok(Answer::Found(source.delete_all(alloc, name, key)?)),
-        "add_section" => found(source.add_section(alloc, write, section)),
-        "delete_section" => Ok(Answer::Found(source.delete_section(alloc, section)?)),
-        _ => found(source.rename_section(alloc, write.escape_policy, section, other)),
+        "delete" => Ok(source.delete(alloc, name, key)?),
+        "delete_nth" => Ok(source.delete_nth(alloc, name, key, number)?),
+        "delete_all" => Ok(source.delete_all(alloc, name, key)?),
+        "add_section" => source.add_section(alloc, write, section),
+        "delete_section" => Ok(source.delete_section(alloc, section)?),
+        _ => source.rename_section(alloc, write.escape_policy, section, other),
     }
 }
 
-/// What the pieces show.
-fn shown(alloc: Global, source: &Source<'_>) -> Result<String, Error> {
+/// The sections in order, as a document's are shown.
+pub(crate) fn shown(alloc: Global, source: &Source<'_>) -> Result<String, Error> {
     let mut out = String::new(alloc);
     for section in source.sections() {
-        out.push_str(format!(in alloc; "[{:?}]", section.name())?.as_str())?;
+        match section.name() {
+            None => out.push_str("general")?,
+            Some(name) => put(&mut out, &[" [", name, "]"])?,
+        }
         for pair in section.pairs() {
-            out.push_str(format!(in alloc; "<{:?}|{:?}>", pair.key(), pair.value())?.as_str())?;
+            put(&mut out, &[" <", pair.key(), "|", pair.value(), ">"])?;
         }
     }
     Ok(out)
@@ -144,12 +138,24 @@ fn text_of(alloc: Global, source: &Source<'_>) -> Result<String, Error> {
     let text = source.to_text(alloc)?;
     let alike = {
         let anew = Source::read(alloc, text.as_str(), source.option())?;
-        shown(alloc, &anew)?.as_str() == shown(alloc, source)?.as_str()
+        shown(alloc, &anew)? == shown(alloc, source)?
     };
     if alike {
         return Ok(text);
     }
-    Ok(format!(in alloc; "another document: {text:?}")?)
+    Ok(String::from_str(alloc, "another document")?)
+}
+
+/// The comment of a pair, if it is there.
+fn comment_of(
+    alloc: Global,
+    source: &Source<'_>,
+    words: Words<'_>,
+) -> Result<Option<String>, EditError> {
+    match source.comment_of(words.name, words.key) {
+        Some(comment) => Ok(Some(String::from_str(alloc, comment)?)),
+        None => Ok(None),
+    }
 }
 
 /// What a call makes of the pieces, or answers; a refused one must have changed nothing.
@@ -159,29 +165,52 @@ pub(crate) fn made(
     call: &str,
     words: Words<'_>,
 ) -> Result<String, Error> {
+    if call == "comment_of" {
+        return reported(alloc, comment_of(alloc, source, words));
+    }
     let before = source.to_text(alloc)?;
     match edited(alloc, source, call, words) {
-        Ok(Answer::Found(true)) => text_of(alloc, source),
-        Ok(Answer::Found(false)) => reported(alloc, Ok(None)),
-        Ok(Answer::Text(text)) => reported(alloc, Ok(text)),
+        Ok(true) => text_of(alloc, source),
+        Ok(false) => Ok(String::from_str(alloc, "none")?),
         Err(refusal) => {
-            if source.to_text(alloc)?.as_str() != before.as_str() {
-                return Ok(format!(in alloc; "refused, and changed")?);
+            if source.to_text(alloc)? != before {
+                return Ok(String::from_str(alloc, "refused, and changed")?);
             }
             reported(alloc, Err(refusal))
         }
     }
 }
 
-/// Asks for each row.
-pub(crate) fn expect(rt: &(impl Abort + AllocGlobal), rows: &[Row]) -> Result<(), Fail> {
-    for (call, letters, words, text, want) in rows {
-        let mut source = Source::read(rt.alloc(), *text, options_of(*letters))?;
-        let is = made(rt.alloc(), &mut source, *call, words_of(*words))?;
-        assert!(rt;
-            is.as_str() == *want,
-            "{call} {letters} {words}, {text:?}: {is:?}, and not {want:?}"
-        );
+/// The rows by what they are about.
+const ROWS: [&[Row]; 15] = [
+    VALUES,
+    NEW_PAIRS,
+    DELETED_PAIRS,
+    REPEATED_KEYS,
+    BESIDE_OTHERS,
+    KEYS_ALONE,
+    AFTER_KEYS_ALONE,
+    NOTED_VALUES,
+    NOTED_KEYS,
+    FIRST_PAIRS,
+    RENAMED,
+    DELETED_SECTIONS,
+    NEW_SECTIONS,
+    COMMENTS,
+    NOTED_HEADERS,
+];
+
+/// Each call changes what it says, and no other byte.
+#[test]
+fn each_call_makes_its_text(rt: HostRuntime) -> Result<(), Fail> {
+    let alloc = rt.alloc();
+    for rows in ROWS {
+        for row in rows {
+            let (call, letters, words, text, want) = *row;
+            let mut source = Source::read(alloc, text, options_of(letters))?;
+            let is = made(alloc, &mut source, call, words_of(words))?;
+            assert!(rt; is.as_str() == want, "{call} {words}, {text}: {is}");
+        }
     }
     Ok(())
 }
@@ -209,12 +238,13 @@ fn calls() -> &'static [&'static str] {
 /// Many edits one after another: the text read anew shows what the pieces do after each.
 #[test]
 fn edits_in_a_row_of_random_texts(rt: HostRuntime) -> Result<(), Fail> {
+    let alloc = rt.alloc();
     let mut random = Random::new(88172645463325252);
     for _ in 0..300 {
-        let letters = random.letters(rt.alloc())?;
-        let text = random.text(rt.alloc())?;
+        let letters = random.letters(alloc)?;
+        let text = random.text(alloc)?;
         let read = options_of(letters.as_str());
-        if let Ok(source) = Source::read(rt.alloc(), text.as_str(), read) {
+        if let Ok(source) = Source::read(alloc, text.as_str(), read) {
             let mut source = source;
             for _ in 0..20 {
                 let call = random.piece(calls());
@@ -225,9 +255,9 @@ fn edits_in_a_row_of_random_texts(rt: HostRuntime) -> Result<(), Fail> {
                     value: random.piece(&["v", "# c\n", " w ", "x\ny"]),
                     number: 1,
                 };
-                let is = made(rt.alloc(), &mut source, call, words)?;
+                let is = made(alloc, &mut source, call, words)?;
                 let alike = !is.starts_with("another") && is.as_str() != "refused, and changed";
-                assert!(&rt; alike, "{text:?} {letters} {call}: {is}");
+                assert!(&rt; alike, "{text:?} {letters} {call}");
             }
         }
     }

@@ -1,236 +1,427 @@
 //! Pairs set, put in and taken out of texts in pieces, to the byte.
-use super::source_calls::expect;
-use std::test::Fail;
+use super::source_calls::Row;
 
-#[test]
-fn values_are_written_in_the_first_form_that_is_read_back(rt: HostRuntime) -> Result<(), Fail> {
-    expect(
-        &rt,
-        &[
-            (
-                "set",
-                "qe",
-                "a|k||new|0",
-                "[a]\n  k\t= 'v'   \n# c\n",
-                "[a]\n  k\t= 'new'   \n# c\n",
-            ),
-            ("set", "qe", "-|k||it's|0", "k='v'\n", "k=it's\n"),
-            ("set", "qe", "-|k|| w |0", "k=v\n", "k=\" w \"\n"),
-            ("set", "qe", "-|k||\"w|0", "k=v\n", "k='\"w'\n"),
-            ("set", "qe", "-|k||'\"|0", "k=v\n", "Value"),
-            ("set", "q", "-|k||C:\\temp|0", "k=v\n", "Value"),
-            ("set", "e", "-|k|| w|0", "k=v\n", "Value"),
-            ("set_existing", "qe", "-|k||w|0", "j=v\n", "none"),
-            ("set", "qe", "-|k||v|0", "k = \"v\" \nk=2\n", "k = \"v\" \n"),
-            (
-                "set_first",
-                "qe",
-                "-|k||w|0",
-                "k=1\n# c\nk=2\n",
-                "k=w\n# c\nk=2\n",
-            ),
-            (
-                "set_nth",
-                "qe",
-                "-|k||w|1",
-                "k=1\nk=2\nk=3\n",
-                "k=1\nk=w\nk=3\n",
-            ),
-            ("set_nth", "qe", "-|k||w|3", "k=1\nk=2\nk=3\n", "none"),
-            (
-                "set",
-                "qem",
-                "-|k||w|0",
-                "k=1\n  2\n\nj=3\n",
-                "k=w\n\nj=3\n",
-            ),
-        ],
-    )
-}
+/// Values are written in the first form that is read back.
+pub(crate) const VALUES: &[Row] = &[
+    (
+        "set",
+        "qe",
+        "a|k||new|0",
+        "[a]\n  k\t= 'v'   \n# c\n",
+        "[a]\n  k\t= 'new'   \n# c\n",
+    ),
+    ("set", "qe", "-|k||it's|0", "k='v'\n", "k=it's\n"),
+    ("set", "qe", "-|k|| w |0", "k=v\n", "k=\" w \"\n"),
+    ("set", "qe", "-|k||\"w|0", "k=v\n", "k='\"w'\n"),
+    ("set", "qe", "-|k||'\"|0", "k=v\n", "Value"),
+    ("set", "q", "-|k||C:\\temp|0", "k=v\n", "Value"),
+    ("set", "e", "-|k|| w|0", "k=v\n", "Value"),
+    ("set_existing", "qe", "-|k||w|0", "j=v\n", "none"),
+    ("set", "qe", "-|k||v|0", "k = \"v\" \nk=2\n", "k = \"v\" \n"),
+    (
+        "set_first",
+        "qe",
+        "-|k||w|0",
+        "k=1\n# c\nk=2\n",
+        "k=w\n# c\nk=2\n",
+    ),
+    (
+        "set_nth",
+        "qe",
+        "-|k||w|1",
+        "k=1\nk=2\nk=3\n",
+        "k=1\nk=w\nk=3\n",
+    ),
+    ("set_nth", "qe", "-|k||w|3", "k=1\nk=2\nk=3\n", "none"),
+    (
+        "set",
+        "qem",
+        "-|k||w|0",
+        "k=1\n  2\n\nj=3\n",
+        "k=w\n\nj=3\n",
+    ),
+];
 
-#[test]
-fn new_pairs_are_written_like_their_neighbours(rt: HostRuntime) -> Result<(), Fail> {
-    expect(
-        &rt,
-        &[
-            (
-                "add",
-                "qe",
-                "a|k||v|0",
-                "[a]\n  j = w\n\n# of b\n[b]\n",
-                "[a]\n  j = w\n  k = v\n\n# of b\n[b]\n",
-            ),
-            ("add", "qe", "a|k||v|0", "[a]j:w\r\n", "[a]j:w\r\nk=v\r\n"),
-            (
-                "add",
-                "qe",
-                "a|k||v|0",
-                "x\t:\tw\n[a]",
-                "x\t:\tw\n[a]\nk\t:\tv\n",
-            ),
-            (
-                "add",
-                "qe",
-                "a|k|| v|0",
-                "[a]\nj = w\n",
-                "[a]\nj = w\nk = \" v\"\n",
-            ),
-            (
-                "add",
-                "qek",
-                "a|k||v|0",
-                "[a]\n  j = w\n",
-                "[a]\n  j = w\nk = v\n",
-            ),
-            (
-                "add",
-                "qem",
-                "a|k||v|0",
-                "[a]\n  j = w\n\n\n# c\n",
-                "[a]\n  j = w\nk = v\n\n\n# c\n",
-            ),
-            ("add", "qe", "a|=||v|0", "[a]\n", "Key"),
-            ("set", "qe", "a|k||v|0", "[a]\nj=\\", "[a]\nj=\\\\\nk=v\n"),
-            ("set", "q", "a|k||v|0", "[a]\nj=\\", "[a]\nj=\\ \nk=v\n"),
-            ("set", "qr", "a|k||v|0", "[a]\nj=\\", "[a]\nj=\\\nk=v\n"),
-            ("set", "qel", "a|k||v|0", "[a]\nj=w\n", "[a]\nj=w\nk=v\n"),
-        ],
-    )
-}
+/// New pairs are written like their neighbours.
+pub(crate) const NEW_PAIRS: &[Row] = &[
+    (
+        "add",
+        "qe",
+        "a|k||v|0",
+        "[a]\n  j = w\n\n# of b\n[b]\n",
+        "[a]\n  j = w\n  k = v\n\n# of b\n[b]\n",
+    ),
+    ("add", "qe", "a|k||v|0", "[a]j:w\r\n", "[a]j:w\r\nk=v\r\n"),
+    (
+        "add",
+        "qe",
+        "a|k||v|0",
+        "x\t:\tw\n[a]",
+        "x\t:\tw\n[a]\nk\t:\tv\n",
+    ),
+    (
+        "add",
+        "qe",
+        "a|k|| v|0",
+        "[a]\nj = w\n",
+        "[a]\nj = w\nk = \" v\"\n",
+    ),
+    (
+        "add",
+        "qek",
+        "a|k||v|0",
+        "[a]\n  j = w\n",
+        "[a]\n  j = w\nk = v\n",
+    ),
+    (
+        "add",
+        "qem",
+        "a|k||v|0",
+        "[a]\n  j = w\n\n\n# c\n",
+        "[a]\n  j = w\nk = v\n\n\n# c\n",
+    ),
+    ("add", "qe", "a|=||v|0", "[a]\n", "Key"),
+    ("set", "qe", "a|k||v|0", "[a]\nj=\\", "[a]\nj=\\\\\nk=v\n"),
+    ("set", "q", "a|k||v|0", "[a]\nj=\\", "[a]\nj=\\ \nk=v\n"),
+    ("set", "qr", "a|k||v|0", "[a]\nj=\\", "[a]\nj=\\\nk=v\n"),
+    ("set", "qel", "a|k||v|0", "[a]\nj=w\n", "[a]\nj=w\nk=v\n"),
+];
 
-#[test]
-fn pairs_go_with_their_line(rt: HostRuntime) -> Result<(), Fail> {
-    expect(
-        &rt,
-        &[
-            (
-                "delete",
-                "qe",
-                "a|k|||0",
-                "[a]\nk=v\n\n# c\n",
-                "[a]\n\n# c\n",
-            ),
-            ("delete", "qe", "a|k|||0", "[a]k=v\n# c", "[a]\n# c"),
-            ("delete", "qe", "a|k|||0", "[a]k=v\r\nj=w", "[a]\r\nj=w"),
-            ("delete", "qe", "-|k|||0", "x=y\rk=v\n#c", "x=y\r\n#c"),
-            ("delete", "qe", "-|k|||0", "x=y\rk=v\rj=w", "x=y\rj=w"),
-            ("delete", "qe", "-|k|||0", "j=1\nk=2", "j=1\n"),
-            ("delete", "qr", "-|k|||0", "k=1\\\nj=2", "j=2"),
-            ("delete", "qel", "-|k|||0", "k=1\nj=2", "j=2"),
-            (
-                "delete",
-                "qem",
-                "a|k|||0",
-                "[a]\nk=v\n  w\n\nj=w",
-                "[a]\n\nj=w",
-            ),
-            ("delete", "qem", "a|k|||0", "[a]k=v\n", "[a]\n"),
-            ("delete", "qem", "-|k|||0", "x=y\rk=v\n\n#c", "x=y\r\n#c"),
-            (
-                "delete",
-                "qem",
-                "-|k|||0",
-                "k=v\n  \"\"\n  \nj=w\n",
-                "  \nj=w\n",
-            ),
-            (
-                "delete_nth",
-                "qe",
-                "-|k|||1",
-                "k=1\nk=2\nk=3\n",
-                "k=1\nk=3\n",
-            ),
-            (
-                "delete_all",
-                "qe",
-                "-|k|||0",
-                "k=1\n# c\nk=2\nj=3\nk=4\n",
-                "# c\nj=3\n",
-            ),
-            ("delete_all", "qe", "b|k|||0", "k=1\n", "none"),
-        ],
-    )
-}
+/// Pairs go with their line.
+pub(crate) const DELETED_PAIRS: &[Row] = &[
+    (
+        "delete",
+        "qe",
+        "a|k|||0",
+        "[a]\nk=v\n\n# c\n",
+        "[a]\n\n# c\n",
+    ),
+    ("delete", "qe", "a|k|||0", "[a]k=v\n# c", "[a]\n# c"),
+    ("delete", "qe", "a|k|||0", "[a]k=v\r\nj=w", "[a]\r\nj=w"),
+    ("delete", "qe", "-|k|||0", "x=y\rk=v\n#c", "x=y\r\n#c"),
+    ("delete", "qe", "-|k|||0", "x=y\rk=v\rj=w", "x=y\rj=w"),
+    ("delete", "qe", "-|k|||0", "j=1\nk=2", "j=1\n"),
+    ("delete", "qr", "-|k|||0", "k=1\\\nj=2", "j=2"),
+    ("delete", "qel", "-|k|||0", "k=1\nj=2", "j=2"),
+    (
+        "delete",
+        "qem",
+        "a|k|||0",
+        "[a]\nk=v\n  w\n\nj=w",
+        "[a]\n\nj=w",
+    ),
+    ("delete", "qem", "a|k|||0", "[a]k=v\n", "[a]\n"),
+    ("delete", "qem", "-|k|||0", "x=y\rk=v\n\n#c", "x=y\r\n#c"),
+    (
+        "delete",
+        "qem",
+        "-|k|||0",
+        "k=v\n  \"\"\n  \nj=w\n",
+        "  \nj=w\n",
+    ),
+    (
+        "delete_nth",
+        "qe",
+        "-|k|||1",
+        "k=1\nk=2\nk=3\n",
+        "k=1\nk=3\n",
+    ),
+    (
+        "delete_all",
+        "qe",
+        "-|k|||0",
+        "k=1\n# c\nk=2\nj=3\nk=4\n",
+        "# c\nj=3\n",
+    ),
+    ("delete_all", "qe", "b|k|||0", "k=1\n", "none"),
+];
 
-#[test]
-fn repeated_keys_get_values(rt: HostRuntime) -> Result<(), Fail> {
-    expect(
-        &rt,
-        &[
-            (
-                "set_all",
-                "qe",
-                "-|k||x/y|0",
-                "k = 1\nj=2\nk = 3\nk=4\n",
-                "k = x\nj=2\nk = y\n",
-            ),
-            (
-                "set_all",
-                "qe",
-                "-|k||x/y/z|0",
-                "  k = 1\nj=2\n",
-                "  k = x\n  k = y\n  k = z\nj=2\n",
-            ),
-            (
-                "set_all",
-                "qe",
-                "a|k||x/y|0",
-                "[a]\nj = 1\n",
-                "[a]\nj = 1\nk = x\nk = y\n",
-            ),
-            ("set_all", "qe", "-|k||x/'\"|0", "k=1\nk=2\n", "Value"),
-        ],
-    )
-}
+/// Repeated keys get values.
+pub(crate) const REPEATED_KEYS: &[Row] = &[
+    (
+        "set_all",
+        "qe",
+        "-|k||x/y|0",
+        "k = 1\nj=2\nk = 3\nk=4\n",
+        "k = x\nj=2\nk = y\n",
+    ),
+    (
+        "set_all",
+        "qe",
+        "-|k||x/y/z|0",
+        "  k = 1\nj=2\n",
+        "  k = x\n  k = y\n  k = z\nj=2\n",
+    ),
+    (
+        "set_all",
+        "qe",
+        "a|k||x/y|0",
+        "[a]\nj = 1\n",
+        "[a]\nj = 1\nk = x\nk = y\n",
+    ),
+    ("set_all", "qe", "-|k||x/'\"|0", "k=1\nk=2\n", "Value"),
+    ("set_all", "qea", "-|k||x/y|0", "k\nj\n", "k=x\nk=y\nj\n"),
+];
 
-#[test]
-fn pairs_are_put_in_beside_others(rt: HostRuntime) -> Result<(), Fail> {
-    expect(
-        &rt,
-        &[
-            (
-                "insert_after",
-                "qe",
-                "a|k|new|v|0",
-                "[a]\n  k = 1\n\n# of j\nj=2\n",
-                "[a]\n  k = 1\n  new = v\n\n# of j\nj=2\n",
-            ),
-            (
-                "insert_before",
-                "qe",
-                "a|j|new|v|0",
-                "[a]\n  k = 1\n\n# of j\nj=2\n",
-                "[a]\n  k = 1\n\n  new = v\n# of j\nj=2\n",
-            ),
-            (
-                "insert_before",
-                "qe",
-                "a|k|new|v|0",
-                "[a]k=1\n",
-                "[a]\nnew=v\nk=1\n",
-            ),
-            ("insert_after", "qe", "a|j|new|v|0", "[a]\nk=1\n", "none"),
-            (
-                "insert_before",
-                "qem",
-                "a|k|new|v|0",
-                "[a]\n  k=1\n",
-                "NoPlace",
-            ),
-            (
-                "insert_before",
-                "qem",
-                "a|k|new|v|0",
-                "[a]\n# c\n  k=1\n",
-                "[a]\n  new=v\n# c\n  k=1\n",
-            ),
-            (
-                "insert_after",
-                "qem",
-                "a|k|new|v|0",
-                "[a]\n  k = 1\n  2\n\nj=3\n",
-                "[a]\n  k = 1\n  2\nnew = v\n\nj=3\n",
-            ),
-        ],
-    )
-}
+/// Pairs are put in beside others.
+pub(crate) const BESIDE_OTHERS: &[Row] = &[
+    (
+        "insert_after",
+        "qe",
+        "a|k|new|v|0",
+        "[a]\n  k = 1\n\n# of j\nj=2\n",
+        "[a]\n  k = 1\n  new = v\n\n# of j\nj=2\n",
+    ),
+    (
+        "insert_before",
+        "qe",
+        "a|j|new|v|0",
+        "[a]\n  k = 1\n\n# of j\nj=2\n",
+        "[a]\n  k = 1\n\n  new = v\n# of j\nj=2\n",
+    ),
+    (
+        "insert_before",
+        "qe",
+        "a|k|new|v|0",
+        "[a]k=1\n",
+        "[a]\nnew=v\nk=1\n",
+    ),
+    ("insert_after", "qe", "a|j|new|v|0", "[a]\nk=1\n", "none"),
+    (
+        "insert_before",
+        "qem",
+        "a|k|new|v|0",
+        "[a]\n  k=1\n",
+        "NoPlace",
+    ),
+    (
+        "insert_before",
+        "qem",
+        "a|k|new|v|0",
+        "[a]\n# c\n  k=1\n",
+        "[a]\n  new=v\n# c\n  k=1\n",
+    ),
+    (
+        "insert_after",
+        "qem",
+        "a|k|new|v|0",
+        "[a]\n  k = 1\n  2\n\nj=3\n",
+        "[a]\n  k = 1\n  2\nnew = v\n\nj=3\n",
+    ),
+];
+
+/// Keys alone get separators.
+pub(crate) const KEYS_ALONE: &[Row] = &[
+    ("set", "qea", "-|k||v|0", "  k \t\n# c\n", "  k \t=v\n# c\n"),
+    ("set", "qea", "-|k|||0", "k\n", "k\n"),
+    ("set", "qea", "-|k||v|0", "k\\\n", "k\\\n=v"),
+    ("set", "qea", "-|k\\||v|0", "k\\", "k\\\\=v"),
+    ("set", "qa", "-|k\\||v|0", "k\\", "k\\ =v"),
+    ("set", "qea", "-|k|| v|0", "k\r\nj", "k=\" v\"\r\nj"),
+    ("set_first", "qea", "-|k||v|0", "k\nk=1\n", "k=v\nk=1\n"),
+    ("set", "qea", "-|k||v|0", "k\nk=1\nk\n", "k=v\n"),
+    ("set_nth", "qea", "-|k||v|1", "k=1\nk\n", "k=1\nk=v\n"),
+    ("set_existing", "qea", "-|j||v|0", "k\n", "none"),
+    (
+        "add",
+        "qea",
+        "a|j||w|0",
+        "[a]\n  i = 1\n k\n",
+        "[a]\n  i = 1\n k\n  j = w\n",
+    ),
+    ("add", "qea", "-|j||w|0", "k\\", "k\\\\\nj=w\n"),
+    ("add", "qka", "-|j||w|0", "  k", "  k\nj=w\n"),
+    (
+        "insert_after",
+        "qea",
+        "-|k|new|v|0",
+        "k\n\n# of j\nj=2\n",
+        "k\nnew=v\n\n# of j\nj=2\n",
+    ),
+    (
+        "insert_before",
+        "qea",
+        "-|j|new|v|0",
+        "k\n\n# of j\nj\n",
+        "k\n\nnew=v\n# of j\nj\n",
+    ),
+    ("delete", "qea", "-|k|||0", "k\nj\n", "j\n"),
+    ("delete_nth", "qea", "-|k|||1", "k=1\nk\nk", "k=1\nk"),
+    (
+        "delete_all",
+        "qea",
+        "-|k|||0",
+        "k\n# c\nk=1\n  k\n",
+        "# c\n",
+    ),
+    ("delete", "qeac", "a|k|||0", "[a] k\r# c", "[a] \r# c"),
+    ("rename_key", "qea", "-|k|new||0", " k \n", " new \n"),
+    ("rename_key", "qra", "-|k\\|new||0", "k\\\n", "new\n"),
+];
+
+/// Multiline values take nothing after keys alone.
+pub(crate) const AFTER_KEYS_ALONE: &[Row] = &[
+    ("set", "qema", "-|k||v|0", "k\n  j\n", "k=v\n;\n  j\n"),
+    ("set", "qema", "-|k||v|0", "k\n\n# c\n", "k=v\n;\n\n# c\n"),
+    ("set", "qema", "-|k||v|0", "k\r\r[a]\n", "k=v\r\n;\n\r[a]\n"),
+    ("set", "qema", "-|k||v|0", "k\nj\n", "k=v\nj\n"),
+    ("set", "qemac", "-|k||v|0", "k\n  ; c\n", "k=v\n;\n  ; c\n"),
+    (
+        "add",
+        "qema",
+        "-|i||w|0",
+        "k\n\n[a]\n",
+        "k\ni=w\n;\n\n[a]\n",
+    ),
+    ("add", "qema", "-|i||w|0", "k\n# c\n", "k\ni=w\n# c\n"),
+    (
+        "insert_after",
+        "qema",
+        "-|k|new|v|0",
+        "k\n  j\n",
+        "k\nnew=v\n;\n  j\n",
+    ),
+    (
+        "insert_before",
+        "qema",
+        "-|j|new|v|0",
+        "k\nj\n",
+        "k\nnew=v\nj\n",
+    ),
+    (
+        "insert_before",
+        "qema",
+        "-|j|new|v|0",
+        "k\n  j\n",
+        "NoPlace",
+    ),
+    (
+        "delete",
+        "qema",
+        "-|k|||0",
+        "i=1\nk\n  j\n",
+        "i=1\n;\n  j\n",
+    ),
+    (
+        "delete",
+        "qema",
+        "-|k|||0",
+        "i=1\rk\n\n# c\n",
+        "i=1\r\n;\n\n# c\n",
+    ),
+    ("delete", "qema", "-|k|||0", "h\nk\n  j\n", "h\n  j\n"),
+    ("delete", "qema", "-|k|||0", "i=1\nk\nj\n", "i=1\nj\n"),
+    ("delete", "qema", "a|k|||0", "[a]k\n  j\n", "[a]\n  j\n"),
+    (
+        "delete_all",
+        "qema",
+        "-|k|||0",
+        "i=1\nk\nk\n  j\n",
+        "i=1\n;\n  j\n",
+    ),
+];
+
+/// Notes stay behind values.
+pub(crate) const NOTED_VALUES: &[Row] = &[
+    ("set", "qen", "-|k||w|0", "k = v  ; n\n", "k = w  ; n\n"),
+    ("set", "qen", "-|k|||0", "k='v' ; n\n", "k='' ; n\n"),
+    ("set", "qen", "-|k|||0", "k=v ; n\n", "k=\"\" ; n\n"),
+    ("set", "en", "-|k|||0", "k=v ; n\n", "k= \n"),
+    ("set", "qen", "-|k||a ;b|0", "k=v ; n\n", "k=\"a ;b\" ; n\n"),
+    ("set", "en", "-|k||a ;b|0", "k=v\n", "Value"),
+    ("set", "qen", "-|k||w|0", "k=a\\  ;n", "k=w ;n"),
+    ("set", "qen", "-|k||v|0", "k=v ; n\nk=1\n", "k=v ; n\n"),
+    (
+        "set_nth",
+        "qen",
+        "-|k||w|1",
+        "k=1\nk=2 ; m\n",
+        "k=1\nk=w ; m\n",
+    ),
+    (
+        "set_all",
+        "qen",
+        "-|k||x/y|0",
+        "k=1 ; n\n",
+        "k=x ; n\nk=y\n",
+    ),
+    ("add", "qen", "-|j||w|0", "  k=1 ; n", "  k=1 ; n\n  j=w\n"),
+    (
+        "insert_after",
+        "qen",
+        "-|k|new|v|0",
+        "k=1 ; n\nj=2\n",
+        "k=1 ; n\nnew=v\nj=2\n",
+    ),
+    (
+        "insert_after",
+        "qen",
+        "-|k|new|v|0",
+        "k=1 # n\r; c\r",
+        "k=1 # n\rnew=v\r; c\r",
+    ),
+    (
+        "insert_before",
+        "qen",
+        "-|j|new|v|0",
+        "k=1 ; n\nj=2\n",
+        "k=1 ; n\nnew=v\nj=2\n",
+    ),
+    ("delete", "qen", "-|k|||0", "k=1 ; n\nj=2\n", "j=2\n"),
+    (
+        "delete",
+        "qen",
+        "a|k|||0",
+        "[a] k=1 ; n\nj=2\n",
+        "[a] \nj=2\n",
+    ),
+    ("delete_all", "qen", "-|k|||0", "k=1 ;\n# c\nk= ;", "# c\n"),
+    ("rename_key", "qen", "-|k|j||0", "k=1 ; n\n", "j=1 ; n\n"),
+    (
+        "set",
+        "qemn",
+        "-|k||w|0",
+        "k=a ; n\n b ; m\n\nj=1\n",
+        "k=w ; m\n\nj=1\n",
+    ),
+    (
+        "delete",
+        "qemcn",
+        "-|k|||0",
+        "k=a ; n\n ; c\n b ; m\n ; d\nj=1\n",
+        " ; d\nj=1\n",
+    ),
+];
+
+/// Notes behind keys alone.
+pub(crate) const NOTED_KEYS: &[Row] = &[
+    ("set", "qean", "-|k||v|0", "k ; n\n", "k =v ; n\n"),
+    ("set", "qean", "-|k||a ;b|0", "k\t# n", "k\t=\"a ;b\" # n"),
+    ("set", "qean", "-|k|||0", "k ; n\n", "k ; n\n"),
+    ("add", "qean", "-|j||w|0", "k ; n", "k ; n\nj=w\n"),
+    (
+        "insert_after",
+        "qean",
+        "-|k|new|v|0",
+        "k ; n\n\nj\n",
+        "k ; n\nnew=v\n\nj\n",
+    ),
+    ("delete", "qean", "-|k|||0", "k ; n\nj\n", "j\n"),
+    ("delete", "qean", "a|k|||0", "[a] k ; n\nj\n", "[a] \nj\n"),
+    ("rename_key", "qean", "-|k|a;b||0", " k ;n\n", " a;b ;n\n"),
+    ("rename_key", "qean", "-|k|a ;b||0", "k ; n\n", "Key"),
+    (
+        "set",
+        "qeman",
+        "-|k||v|0",
+        "k ; n\n  j\n",
+        "k =v ; n\n;\n  j\n",
+    ),
+    (
+        "delete",
+        "qeman",
+        "-|k|||0",
+        "i=1\nk ; n\n  j\n",
+        "i=1\n;\n  j\n",
+    ),
+];

@@ -1,26 +1,11 @@
 //! Texts that are read once, in pieces: what they show and write, beside documents and the calls over texts.
 use super::random::Random;
-use super::show::{loaded, options_of, reported};
-use ini::{Error, EscapePolicy, Ini};
+use super::show::{loaded, options_of, refusal, reported};
+use super::source_calls::{Words, made, shown};
+use ini::{Error, EscapePolicy, Ini, ParseOption};
 use ini_edit::{EditError, Source, SourceContent, rename_key, rename_section, set_existing};
 use std::alloc::Global;
-use std::process::Abort;
 use std::test::Fail;
-
-/// The sections in order, as a document's are shown.
-fn shown(alloc: Global, source: &Source<'_>) -> Result<String, Error> {
-    let mut out = String::new(alloc);
-    for section in source.sections() {
-        match section.name() {
-            None => out.push_str("general")?,
-            Some(name) => out.push_str(format!(in alloc; " [{name}]")?.as_str())?,
-        }
-        for pair in section.pairs() {
-            out.push_str(format!(in alloc; " <{}|{}>", pair.key(), pair.value())?.as_str())?;
-        }
-    }
-    Ok(out)
-}
 
 /// Whether the pieces give the text, in memory and to a writer.
 fn gives(alloc: Global, source: &Source<'_>, text: &str) -> Result<bool, Error> {
@@ -36,13 +21,10 @@ fn read(alloc: Global, letters: &str, text: &str) -> Result<String, Error> {
             if gives(alloc, &source, text)? {
                 shown(alloc, &source)
             } else {
-                Ok(format!(in alloc; "another text")?)
+                Ok(String::from_str(alloc, "another text")?)
             }
         }
-        Err(Error::Parse(fault)) => Ok(format!(in alloc;
-            "{:?} at {}:{}",
-            fault.kind, fault.line, fault.col
-        )?),
+        Err(Error::Parse(fault)) => refusal(alloc, &fault),
         Err(other) => Err(other),
     }
 }
@@ -89,19 +71,6 @@ fn answers_alike(alloc: Global, letters: &str, text: &str) -> Result<bool, Error
     Ok(true)
 }
 
-/// The text of pieces that an edit was made of, or what it answered.
-fn edited(
-    alloc: Global,
-    source: &Source<'_>,
-    answer: Result<bool, EditError>,
-) -> Result<String, Error> {
-    match answer {
-        Ok(true) => source.to_text(alloc),
-        Ok(false) => reported(alloc, Ok(None)),
-        Err(refused) => reported(alloc, Err(refused)),
-    }
-}
-
 /// The elements of a text: each with its place, its section, and what it is.
 fn elements_of(alloc: Global, text: &str) -> Result<String, Error> {
     let source = Source::read(alloc, text, options_of("qe"))?;
@@ -137,130 +106,83 @@ fn elements_have_their_places(rt: HostRuntime) -> Result<(), Fail> {
     ];
     for (text, want) in rows {
         let is = elements_of(rt.alloc(), text)?;
-        assert!(&rt; is.as_str() == want, "{text:?}: {is}, and not {want}");
+        assert!(&rt; is.as_str() == want, "{text}: {is}");
     }
     Ok(())
 }
 
-/// The text with a value set by its pieces, where the key is there.
-fn set_in_pieces(alloc: Global, letters: &str, text: &str, value: &str) -> Result<String, Error> {
-    let mut source = Source::read(alloc, text, options_of(letters))?;
-    let answer = source.set_value(alloc, EscapePolicy::Basics, Some("a"), "k", value);
-    edited(alloc, &source, answer)
-}
-
-/// The text with another key by its pieces, where the key is there.
-fn renamed_in_pieces(alloc: Global, letters: &str, text: &str, new: &str) -> Result<String, Error> {
-    let mut source = Source::read(alloc, text, options_of(letters))?;
-    let answer = source.rename_key(alloc, EscapePolicy::Basics, Some("a"), "k", new);
-    edited(alloc, &source, answer)
-}
-
-/// The text with another name by its pieces, where the section is there.
-fn section_renamed_in_pieces(
-    alloc: Global,
-    letters: &str,
-    text: &str,
-    new: &str,
-) -> Result<String, Error> {
-    let mut source = Source::read(alloc, text, options_of(letters))?;
-    let answer = source.rename_section(alloc, EscapePolicy::Basics, "a", new);
-    edited(alloc, &source, answer)
-}
-
-/// How many pairs of the key `k` the section `a` has.
-fn pairs(alloc: Global, letters: &str, text: &str) -> usize {
-    match Ini::load_from_str_opt(alloc, text, options_of(letters)) {
-        Ok(document) => match document.section(Some("a")) {
-            Some(section) => section.get_all("k").count(),
-            None => 0,
-        },
-        Err(_) => 2,
-    }
-}
-
 #[test]
 fn random_texts_in_pieces(rt: HostRuntime) -> Result<(), Fail> {
+    let alloc = rt.alloc();
     let mut random = Random::new(2463534242);
     for _ in 0..2000 {
-        let letters = random.letters(rt.alloc())?;
-        let text = random.text(rt.alloc())?;
+        let letters = random.letters(alloc)?;
+        let text = random.text(alloc)?;
         let (letters, text) = (letters.as_str(), text.as_str());
-        let is = read(rt.alloc(), letters, text)?;
-        let want = loaded(rt.alloc(), letters, text)?;
-        assert!(&rt; is == want, "{text:?} {letters}: {is} and not {want}");
-        let alike = answers_alike(rt.alloc(), letters, text)?;
+        let is = read(alloc, letters, text)?;
+        assert!(&rt; is == loaded(alloc, letters, text)?, "{text:?} {letters}");
+        let alike = answers_alike(alloc, letters, text)?;
         assert!(&rt; alike, "{text:?} {letters}");
     }
     Ok(())
 }
 
-#[test]
-fn values_set_in_pieces(rt: HostRuntime) -> Result<(), Fail> {
-    let mut random = Random::new(362436069);
-    let mut edits: u64 = 0;
-    for _ in 0..2000 {
-        let letters = random.letters(rt.alloc())?;
-        let text = random.text(rt.alloc())?;
-        let (letters, text) = (letters.as_str(), text.as_str());
-        let value = random.piece(&["new", "", "x y", "#", "a\\", "it's", "a\"b"]);
-        if pairs(rt.alloc(), letters, text) < 2 {
-            let policy = EscapePolicy::Basics;
-            let read = options_of(letters);
-            let answer = set_existing(rt.alloc(), text, read, policy, Some("a"), "k", value);
-            let want = reported(rt.alloc(), answer)?;
-            let is = set_in_pieces(rt.alloc(), letters, text, value)?;
-            assert!(&rt;
-                is == want,
-                "{text:?} {letters} {value}: {is:?} and not {want:?}"
-            );
-            if want.as_str() != "none" {
-                edits = edits.wrapping_add(1);
-            }
-        }
+/// The new text that the call over a text answers, by its name.
+fn over_text(
+    alloc: Global,
+    text: &str,
+    read: ParseOption,
+    call: &str,
+    value: &str,
+) -> Result<Option<String>, EditError> {
+    let policy = EscapePolicy::Basics;
+    match call {
+        "set_existing" => set_existing(alloc, text, read, policy, Some("a"), "k", value),
+        "rename_key" => rename_key(alloc, text, read, policy, Some("a"), "k", value),
+        _ => rename_section(alloc, text, read, policy, "a", value),
     }
-    assert!(&rt; edits > 100, "{edits} edits");
-    Ok(())
 }
 
+/// The words of an edit of `k` in section `a`, with this value or name.
+fn edit_of(new: &str) -> Words<'_> {
+    Words {
+        name: Some("a"),
+        key: "k",
+        other: new,
+        value: new,
+        number: 0,
+    }
+}
+
+/// An edit of the pieces answers as the call over the text does.
 #[test]
-fn keys_and_sections_renamed_in_pieces(rt: HostRuntime) -> Result<(), Fail> {
-    let mut random = Random::new(521288629);
-    let policy = EscapePolicy::Basics;
-    let mut edits: u64 = 0;
-    for _ in 0..2000 {
-        let letters = random.letters(rt.alloc())?;
-        let text = random.text(rt.alloc())?;
-        let (letters, text) = (letters.as_str(), text.as_str());
-        let new = random.piece(&["new", "", "x y", "#", " k", "a=b", "n]", "b"]);
-        if Source::read(rt.alloc(), text, options_of(letters)).is_ok() {
-            let answer = rename_key(
-                rt.alloc(),
-                text,
-                options_of(letters),
-                policy,
-                Some("a"),
-                "k",
-                new,
-            );
-            let want = reported(rt.alloc(), answer)?;
-            let is = renamed_in_pieces(rt.alloc(), letters, text, new)?;
-            assert!(&rt;
-                is == want,
-                "{text:?} {letters} {new}: {is:?} and not {want:?}"
-            );
-            let answer = rename_section(rt.alloc(), text, options_of(letters), policy, "a", new);
-            let named = reported(rt.alloc(), answer)?;
-            let is = section_renamed_in_pieces(rt.alloc(), letters, text, new)?;
-            assert!(&rt;
-                is == named,
-                "{text:?} {letters} {new}: {is:?} and not {named:?}"
-            );
-            if want.as_str() != "none" && named.as_str() != "none" {
-                edits = edits.wrapping_add(1);
+fn random_edits_in_pieces(rt: HostRuntime) -> Result<(), Fail> {
+    let alloc = rt.alloc();
+    for (call, state) in [
+        ("set_existing", 362436069),
+        ("rename_key", 521288629),
+        ("rename_section", 521288629),
+    ] {
+        let mut random = Random::new(state);
+        let mut edits: u64 = 0;
+        for _ in 0..2000 {
+            let letters = random.letters(alloc)?;
+            let text = random.text(alloc)?;
+            let (text, read) = (text.as_str(), options_of(letters.as_str()));
+            let new = random.piece(&[
+                "new", "", "x y", "#", " k", "a=b", "n]", "b", "a\\", "it's", "a\"b",
+            ]);
+            if let Ok(source) = Source::read(alloc, text, read) {
+                let mut source = source;
+                let is = made(alloc, &mut source, call, edit_of(new))?;
+                let want = reported(alloc, over_text(alloc, text, read, call, new))?;
+                assert!(&rt; is == want, "{text:?} {letters} {call} {new}");
+                if want.as_str() != "none" {
+                    edits = edits.wrapping_add(1);
+                }
             }
         }
+        assert!(&rt; edits > 100, "{call}: {edits}");
     }
-    assert!(&rt; edits > 100, "{edits} edits");
     Ok(())
 }

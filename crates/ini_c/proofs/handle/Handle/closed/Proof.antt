@@ -50,6 +50,7 @@ no_kept = record {
       enabled_brackets_in_section_names = false;
       enabled_raw_backslash = false;
       enabled_indented_comment = false;
+      enabled_inline_comment = false;
       line_without_separator = RunsOn;
     };
     sections = [];

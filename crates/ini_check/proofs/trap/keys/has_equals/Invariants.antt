@@ -10,6 +10,6 @@ decreases-characters l = length (chars l.rest)
 abbrev pub invariant-characters : goal.invariant-characters
 invariant-characters l = record {
   text : shadow (Utf8 l.rest);
-  has : has_equals l.fn.anywhere l.white (chars l.rest)
-      ≡ has_equals l.fn.anywhere false (chars l.fn.text);
+  has : has_equals l.fn.read l.fn.anywhere l.white (chars l.rest)
+      ≡ has_equals l.fn.read l.fn.anywhere false (chars l.fn.text);
 }

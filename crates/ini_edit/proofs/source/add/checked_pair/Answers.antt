@@ -27,6 +27,7 @@ returns-clause-writable c =
             (string_text c.in-Some.raw_value)) chars-nil found;
       };
       plain_key = plain.plain_key;
+      key_no_note = plain.key_no_note;
       key_read_back = plain.key_read_back;
     }
 
@@ -47,10 +48,12 @@ returns-then-not-is_plain_pair-clause-refused c =
         λ w.
             let plain : IsPlainPair o policy key [] = record {
               plain_key = w.plain_key;
+              key_no_note = w.key_no_note;
               key_read_back = w.key_read_back;
               plain_value = record {
                 is_trimmed = refl;
                 no_quote_mark = λ _. tt;
+                no_note = λ _. refl;
                 read_back = record {
                   of_characters = refl;
                   is_read = inr (record {

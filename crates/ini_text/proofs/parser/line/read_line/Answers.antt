@@ -1,7 +1,7 @@
 use Rattle.std.proofs.Common.{◌≡◌, ◌++◌, ◌&&◌, not, ◌∙◌, refl, ap, sym, rules, string_bytes, IsCharBoundary, subst, chars, take, drop, length}
 use Rattle.std.proofs.Math.Bool.{or-true}
 use Rattle.std.proofs.lemmas.Str.{IsUtf8-string_bytes}
-use Rattle.ini_text.specs.Inside.LineReader.{line}
+use Rattle.ini_text.specs.Inside.LineReader.{line_text}
 use Rattle.ini_text.specs.Inside.Scans.{trimmed_at}
 use Rattle.ini_text.specs.Parsing.Items.{string_text}
 use Rattle.ini_text.proofs.StringLemmas.PushLemmas.{grown}
@@ -14,7 +14,7 @@ pub parts-init : goal.parts-init
 parts-init c = record { text = search rules; read = refl; quoted = refl }
 
 pub returns-in_err-end : goal.returns-in_err-end
-unfolding line
+unfolding line_text
 returns-in_err-end c =
     passed _ _ _ c.from_residual.ensures.1 c.in_err-end.ensures
     (λ r k h. then_stopped _ _ _

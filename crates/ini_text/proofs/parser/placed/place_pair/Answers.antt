@@ -1,35 +1,40 @@
-use Rattle.std.proofs.Common.{refl, sym, ◌∙◌, chars, drop, subst}
-use Rattle.ini_text.specs.Inside.PlaceReader.{HasTail}
-use Rattle.ini_text.proofs.PlaceLemmas.PairLemmas.{pair_read, after_key_within, after_key_some, tail_within, own_within, lead_within, placed}
+use Rattle.std.proofs.Common.{◌≡◌, refl, sym, ◌∙◌, chars, subst, None}
+use Rattle.std.proofs.lemmas.Str.{chars-nil}
+use Rattle.ini_text.specs.Grammar.CharacterKinds.{is_separator, BeginsWithNo}
+use Rattle.ini_text.specs.Grammar.Places.{ArePlaced, pair_source}
+use Rattle.ini_text.proofs.PlaceLemmas.PairLemmas.{pair_read, after_key_within, value_seen, lead_within, made_of, placed, lone_placed}
+use Rattle.ini_text.proofs.parser.placed.place_pair.Goals.{in_default-via-in-Some+else-is_separator, in_default-via-in_default}
 use Rattle.ini_text.proofs.parser.placed.place_pair.Goals as goal
 
-pub unreachable-requires : goal.unreachable-requires
-unreachable-requires c =
-    after_key_some (pair_read c.requires.pair refl) c.requires.rests.key_is c.in_default.ensures.characters
-
-pub front_before-requires : goal.front_before-requires
-front_before-requires c = own_within c.requires.rests.value_is
-
-pub front_before-requires-2 : goal.front_before-requires-2
-front_before-requires-2 c =
+pub front_before-key-requires : goal.front_before-key-requires
+front_before-key-requires c =
     after_key_within (pair_read c.requires.pair refl) c.requires.rests.key_is
 
-pub front_before-requires-3 : goal.front_before-requires-3
-front_before-requires-3 c = lead_within
-    (subst (λ x. HasTail c.args.read (drop 1 x) (chars c.args.rests.start.now)
-    (chars c.args.rests.tail.now) (chars c.args.value.now) (chars c.args.end.now))
-    c.in-Some.ensures.characters c.requires.rests.value_is)
+pub front_before-requires-in-Some : goal.front_before-requires-in-Some
+front_before-requires-in-Some c =
+    lead_within (value_seen c.requires.rests.after_key_is c.in-Some.ensures.characters
+    (sym c.is_separator.ensures ∙ c.if-is_separator.true))
 
-pub front_before-requires-4 : goal.front_before-requires-4
-front_before-requires-4 c = tail_within c.requires.rests.value_is
-
-pub returns : goal.returns
-returns c = λ b s key value holds whole.
-    placed _ _ refl c.requires.rests.key_is c.in-Some.ensures.characters
-    (subst (λ x. HasTail c.args.read (drop 1 x) (chars c.args.rests.start.now)
-    (chars c.args.rests.tail.now) (chars c.args.value.now) (chars c.args.end.now))
-    c.in-Some.ensures.characters c.requires.rests.value_is)
-    c.front_before-2.ensures c.front_before-3.ensures
+pub returns-in-Some : goal.returns-in-Some
+returns-in-Some c = λ b s key value holds whole.
+    let sep_is = sym c.is_separator.ensures ∙ c.if-is_separator.true in
+    placed _ _ refl c.requires.rests.key_is c.in-Some.ensures.characters sep_is
+    (value_seen c.requires.rests.after_key_is c.in-Some.ensures.characters sep_is)
+    c.front_before-key.ensures c.front_before-in-Some.ensures
     (sym c.front_before.ensures ∙ c.split_space_after.ensures.whole) c.split_space_after.ensures.space_after
-    c.front_before-4.ensures
+    c.past_note-after_note.ensures c.front_before-in-Some-2.ensures c.front_before-in-Some-3.ensures
     holds whole
+
+pub returns-in_default : goal.returns-in_default
+returns-in_default c = λ b s key value holds whole.
+    let none : BeginsWithNo is_separator (chars c.args.rests.after_key.now) = elim c.in_default.branch [
+      | in_default-via-in-Some+else-is_separator w ↦
+          subst (BeginsWithNo is_separator) (sym w.in-Some.ensures.characters)
+          (sym w.is_separator.ensures ∙ w.if-is_separator.false)
+      | in_default-via-in_default w ↦
+          subst (BeginsWithNo is_separator) (sym w.in_default.ensures.characters) tt
+    ] in
+    subst (λ l. (s ≡ pair_source (made_of (chars c.front_before-key.result.now) None l l l l l))
+    × ArePlaced c.args.read b (made_of (chars c.front_before-key.result.now) None l l l l l)
+    (chars c.args.end.now) key value) (sym chars-nil)
+    (lone_placed _ _ refl c.requires.rests.key_is none c.front_before-key.ensures holds whole)

@@ -14,6 +14,7 @@ decreases-pieces l = length (chars l.rest)
 abbrev pub invariant-pieces : goal.invariant-pieces
 invariant-pieces l = record {
   text : shadow (Utf8 l.rest);
-  read : prepend (string_text l.fn.out) (string (backslash_of l.read) (ends_of l.ends) (chars l.fn.text))
-      ≡ prepend (string_text l.out) (string (backslash_of l.read) (ends_of l.ends) (chars l.rest));
+  read : prepend (string_text l.fn.out)
+      (string (backslash_of l.read) (ends_of l.read l.ends) (chars l.fn.text))
+      ≡ prepend (string_text l.out) (string (backslash_of l.read) (ends_of l.read l.ends) (chars l.rest));
 }

@@ -1,22 +1,70 @@
-use Rattle.std.proofs.Common.{◌≡◌, ◌∙◌, [], append-nil, chars, sym}
+use Rattle.std.proofs.Common.{◌≡◌, ◌≢◌, ◌∙◌, ◌++◌, ℕ, List, [], ◌∷◌, true, true≢false, ap, append-nil, arith, chars, encode_utf8, encode_utf8_all, eq-eqb, eqb-true, get_or, length, refl, subst, sym, IsUtf8}
+use Rattle.std.proofs.lemmas.Str.{encode_ascii, encodes-chars}
 use Rattle.ini_text.specs.Inside.Endpoints.{ends_of}
-use Rattle.ini_text.specs.Inside.Reading.{found}
-use Rattle.ini_text.specs.Inside.StringReader.{string}
+use Rattle.ini_text.specs.Inside.Scans.{EndsRun, is_run}
 use Rattle.ini_text.proofs.ReaderLemmas.ReaderLemmas.{and_found}
-use Rattle.ini_text.proofs.ReaderLemmas.StringReaderLemmas.{string_run, string_at_end, string_at_endpoint}
-use Rattle.ini_text.proofs.parser.string.split_raw.Goals.{in-Some+else-c-eq92, in-None+else-not-contains_text_end}
+use Rattle.ini_text.proofs.ReaderLemmas.StringReaderLemmas.{run_to_end, string_at_end, string_ends}
+use Rattle.ini_text.proofs.StringLemmas.PushLemmas.{no_characters, some_characters}
+use Rattle.ini_text.proofs.parser.string.split_raw.Goals.{then-read, else-read, Joined-read}
 use Rattle.ini_text.proofs.parser.string.split_raw.Goals as goal
+
+parts_at : (c : Joined-read) → chars c.args.text.now
+    ≡ chars c.if-read.parts.0.now ++ chars c.if-read.parts.1.now
+parts_at c = elim c.if-read.branch [
+  | then-read w ↦ rw w.parts-is w.split_noted_run-parts.ensures.parts
+  | else-read w ↦ rw w.parts-is w.split_run-parts.ensures.parts
+]
+
+run_at : (c : Joined-read) → is_run (ends_of c.args.read c.args.ends) (chars c.if-read.parts.0.now) ≡ true
+run_at c = elim c.if-read.branch [
+  | then-read w ↦ rw w.parts-is w.split_noted_run-parts.ensures.run
+  | else-read w ↦ rw w.parts-is (w.split_run-parts.ensures.run w.if-read.false)
+]
+
+next_at : (c : Joined-read) → EndsRun (ends_of c.args.read c.args.ends) (chars c.if-read.parts.0.now)
+    (chars c.if-read.parts.1.now)
+next_at c = elim c.if-read.branch [
+  | then-read w ↦ rw w.parts-is w.split_noted_run-parts.ensures.next
+  | else-read w ↦ rw w.parts-is w.split_run-parts.ensures.next
+]
+
+-- a text whose first byte is no backslash begins with another character
+first : (t : List ℕ) → IsUtf8 t → (length t ≡ 0 → ⊥) → get_or t 0 0 ≢ 92
+    → (c : ℕ) × (cs : List ℕ) × (chars t ≡ c ∷ cs) × (c ≢ 92)
+first t u some other = at (chars t) refl
+  where
+    at : (cs : List ℕ) → chars t ≡ cs → (c : ℕ) × (ds : List ℕ) × (chars t ≡ c ∷ ds) × (c ≢ 92)
+    at [] is = absurd (some_characters t u some is)
+    at (c ∷ cs) is =
+        let same : encode_utf8 c ++ encode_utf8_all cs ≡ t =
+        ap encode_utf8_all (sym is) ∙ encodes-chars t u in (
+          c,
+          cs,
+          is,
+          λ slash. other (ap (λ x. get_or x 0 0)
+              (sym (ap (λ x. x ++ encode_utf8_all cs) (sym (encode_ascii 92 (omega arith)))
+              ∙ subst (λ x. encode_utf8 x ++ encode_utf8_all cs ≡ t) slash same))),
+        )
+
+pub returns-then-is_empty : goal.returns-then-is_empty
+returns-then-is_empty c = λ e.
+    let at = (goal.at.returns-then-is_empty c).Joined-read in
+    let to = ends_of c.args.read c.args.ends in
+    let none =
+    no_characters c.if-read.parts.1.now (eqb-true _ 0 (sym c.is_empty.ensures ∙ c.if-is_empty.true)) in
+    and_found (chars c.if-read.parts.0.now)
+    (run_to_end e to (chars c.if-read.parts.0.now) (chars c.if-read.parts.1.now) (parts_at at) (run_at at)
+    none)
+    (string_at_end e to none (sym c.if-not-contains_text_end.false ∙ c.contains_text_end.ensures))
+    (sym (append-nil (chars c.if-read.parts.0.now)))
 
 pub returns : goal.returns
 returns c = λ e.
-    let to = ends_of c.args.ends in
-    let rest = chars c.split_run.result.1.now in
-    let ends : string e to rest ≡ found [] rest = elim c.match-split_first.branch [
-      | in-Some+else-c-eq92 w ↦
-          string_at_endpoint e to w.in-Some.ensures.characters w.if-c-eq92.false c.split_run.ensures.next
-      | in-None+else-not-contains_text_end w ↦
-          string_at_end e to w.in-None.ensures.characters (sym w.if-not-contains_text_end.false
-          ∙ w.contains_text_end.ensures)
-    ] in
-    and_found _ (string_run e to _ _ c.split_run.ensures.parts c.split_run.ensures.run) ends
-    (sym (append-nil _))
+    let at = (goal.at.returns c).Joined-read in
+    let to = ends_of c.args.read c.args.ends in
+    let one = first c.as_bytes.result.now c.as_bytes.ensures.utf8
+    (λ none. true≢false (sym (eq-eqb _ 0 (ap length (sym c.as_bytes.ensures.value) ∙ none))
+    ∙ sym c.is_empty.ensures ∙ c.if-is_empty.false)) c.if-as_bytes-eq92.false in
+    string_ends e to (chars c.if-read.parts.0.now) (chars c.if-read.parts.1.now) (parts_at at) (run_at at)
+    (next_at at)
+    (ap chars (sym c.as_bytes.ensures.value) ∙ one.2) one.3

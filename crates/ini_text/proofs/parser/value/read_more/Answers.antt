@@ -63,16 +63,17 @@ lines-preserved-in-Some-comment_end c = record {
       c.in-Some.ensures.characters c.in-Some-comment_end.ensures c.in-Some-after_line_end.ensures;
 }
 
-pub returns-in_err-end : goal.returns-in_err-end
-returns-in_err-end c =
-    passed _ _ _ c.from_residual-in_err-end.ensures.1 c.in_err-end.ensures
+pub returns-in_err-line_tail : goal.returns-in_err-line_tail
+returns-in_err-line_tail c =
+    passed _ _ _ c.from_residual-in_err-line_tail.ensures.1 c.in_err-line_tail.ensures
     (λ r k h. tail_line_stops c.args.read c.requires.starts c.lines.invariant.known
-    c.in-Some.ensures.characters (sym c.contains.ensures ∙ c.if-contains.true) c.in_default-comment_end.ensures c.skip.ensures
+    c.in-Some.ensures.characters (sym c.contains.ensures ∙ c.if-contains.true)
+    c.in_default-comment_end.ensures c.skip.ensures
     (stopped_after _ _ h))
 
 pub gives_more-requires : goal.gives_more-requires
 gives_more-requires c =
-    let read = read_after _ _ c.in_ok-end.ensures in
+    let read = read_after _ _ c.in_ok-line_tail.ensures in
     let g = grown (string_bytes c.push-then-contains.new.out) (string_bytes c.read_line.new.out) read.0
     (IsUtf8-string_bytes c.push-then-contains.new.out) (IsUtf8-string_bytes c.read_line.new.out) read.2 in
     subst (λ b. IsCharBoundary b c.len-len.result) (sym c.as_str.ensures.value)
@@ -81,7 +82,7 @@ gives_more-requires c =
 
 pub returns-in_default-after_line_end-2 : goal.returns-in_default-after_line_end-2
 returns-in_default-after_line_end-2 c =
-    let read = read_after _ _ c.in_ok-end.ensures in
+    let read = read_after _ _ c.in_ok-line_tail.ensures in
     let u = read.0 in
     let old = string_text c.lines.out in
     let g = grown (string_bytes c.push-then-contains.new.out) (string_bytes c.read_line.new.out) read.0
@@ -94,34 +95,38 @@ returns-in_default-after_line_end-2 c =
     c.gives_more.ensures ∙ ap (λ x. not (list_all is_line_feed x)) line_is in
     let given_is : old ++ (line_feed ∷ u) ≡ string_text c.read_line.new.out =
     sym (read.2 ∙ ap (λ x. x ++ u) c.in_ok-push-3.ensures ∙ append_assoc old (line_feed ∷ []) u) in
-    let end = chars c.in_ok-end.end.now in
+    let left = chars c.in_ok-line_tail.line_tail.now in
+    let end = chars c.past_note-end.result.now in
     elim c.if-gives_more.branch [
       | then-gives_more w ↦
           rw w.tail-is (subst (λ x. HasTail c.args.read (chars c.args.text.now) (chars c.args.start.now)
-          end (without_outer_line_feeds x) end) given_is
+          left (without_outer_line_feeds x) end) given_is
           (last_line-own c.args.read c.requires.starts c.requires.multiline
           c.lines.invariant.known c.in-Some.ensures.characters
-          (sym c.contains.ensures ∙ c.if-contains.true) c.in_default-comment_end.ensures c.skip.ensures read.1
+          (sym c.contains.ensures ∙ c.if-contains.true) c.in_default-comment_end.ensures
+          c.skip.ensures read.1 c.past_note-end.ensures
           c.in_default-after_line_end-2.ensures (not-true _ (sym tells ∙ w.if-gives_more.true))))
       | else-gives_more w ↦
           rw w.tail-is (subst (λ x. HasTail c.args.read (chars c.args.text.now) (chars c.args.start.now)
           (chars c.lines.tail.now) (without_outer_line_feeds x) end) given_is
           (last_line-empty c.args.read c.requires.starts c.requires.multiline
           c.lines.invariant.known c.in-Some.ensures.characters
-          (sym c.contains.ensures ∙ c.if-contains.true) c.in_default-comment_end.ensures c.skip.ensures read.1
+          (sym c.contains.ensures ∙ c.if-contains.true) c.in_default-comment_end.ensures
+          c.skip.ensures read.1 c.past_note-end.ensures
           c.in_default-after_line_end-2.ensures (not-false _ (sym tells ∙ w.if-gives_more.false))))
     ]
 
 pub lines-smaller : goal.lines-smaller
 lines-smaller c =
-    let read = read_after _ _ c.in_ok-end.ensures in
+    let read = read_after _ _ c.in_ok-line_tail.ensures in
     line_shorter c.args.read c.requires.starts c.requires.multiline
     c.lines.invariant.known c.in-Some.ensures.characters
-    (sym c.contains.ensures ∙ c.if-contains.true) c.in_default-comment_end.ensures c.skip.ensures read.1 c.in-Some-after_line_end-2.ensures
+    (sym c.contains.ensures ∙ c.if-contains.true) c.in_default-comment_end.ensures
+    c.skip.ensures read.1 c.past_note-end.ensures c.in-Some-after_line_end-2.ensures
 
 pub lines-preserved : goal.lines-preserved
 lines-preserved c =
-    let read = read_after _ _ c.in_ok-end.ensures in
+    let read = read_after _ _ c.in_ok-line_tail.ensures in
     let u = read.0 in
     let old = string_text c.lines.out in
     let g = grown (string_bytes c.push-then-contains.new.out) (string_bytes c.read_line.new.out) read.0
@@ -141,10 +146,11 @@ lines-preserved c =
             tail_text = search rules;
             text = search rules;
             known = subst (TailSoFar c.args.read (chars c.args.text.now) (chars c.args.start.now)
-                (chars c.in_ok-end.end.now) next) given_is
+                (chars c.in_ok-line_tail.line_tail.now) next) given_is
                 (line-own c.args.read c.requires.starts c.requires.multiline
                 c.lines.invariant.known c.in-Some.ensures.characters
-                (sym c.contains.ensures ∙ c.if-contains.true) c.in_default-comment_end.ensures c.skip.ensures read.1
+                (sym c.contains.ensures ∙ c.if-contains.true) c.in_default-comment_end.ensures
+                c.skip.ensures read.1 c.past_note-end.ensures
                 c.in-Some-after_line_end-2.ensures (not-true _ (sym tells ∙ w.if-gives_more.true)));
           }
       | else-gives_more w ↦
@@ -155,7 +161,8 @@ lines-preserved c =
                 (chars c.lines.tail.now) next) given_is
                 (line-empty c.args.read c.requires.starts c.requires.multiline
                 c.lines.invariant.known c.in-Some.ensures.characters
-                (sym c.contains.ensures ∙ c.if-contains.true) c.in_default-comment_end.ensures c.skip.ensures read.1
+                (sym c.contains.ensures ∙ c.if-contains.true) c.in_default-comment_end.ensures
+                c.skip.ensures read.1 c.past_note-end.ensures
                 c.in-Some-after_line_end-2.ensures (not-false _ (sym tells ∙ w.if-gives_more.false)));
           }
     ]

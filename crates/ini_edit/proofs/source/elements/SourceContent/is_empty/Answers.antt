@@ -1,7 +1,6 @@
 use Rattle.std.proofs.Common.{◌∙◌, ap, sym}
 use Rattle.ini_edit.specs.SourceElements.{content_text, shown_content}
 use Rattle.ini_edit.specs.SourceLines.{is_empty}
-use Rattle.ini_edit.proofs.SourceElementLemmas.{some_pair}
 use Rattle.ini_edit.proofs.source.elements.SourceContent.is_empty.Goals as goal
 
 pub returns-in-Header : goal.returns-in-Header
@@ -10,7 +9,7 @@ returns-in-Header c =
 
 pub returns-in-Pair : goal.returns-in-Pair
 returns-in-Pair c =
-    sym (ap (λ s. is_empty (content_text (shown_content s))) c.in-Pair.is ∙ some_pair c.in-Pair.field-0.now)
+    c.is_empty-in-Pair.ensures ∙ ap (λ s. is_empty (content_text (shown_content s))) (sym c.in-Pair.is)
 
 pub returns-in-Between : goal.returns-in-Between
 returns-in-Between c =

@@ -23,7 +23,7 @@ loop-i-preserved c =
     ∙ ap (column_at r (is_line_feed c.loop-i.last) c.loop-i.column) (take_rest pairs c.loop-i.i))
     c.in_ok-push_laid.ensures.pushed (is_last pairs c.loop-i.i c.index-pairs-i.result c.loop-i-test.true)
     c.in_ok-push_laid_lines.ensures.pushed c.in_ok-column.ensures.column
-    (c.last_char-last.ensures c.loop-i.last)
+    c.last_char-last.ensures
 
 pub returns-clause-pushed : goal.returns-clause-pushed
 returns-clause-pushed c =

@@ -1,7 +1,6 @@
 use Rattle.std.proofs.Common.{◌∙◌, ap₂, chars, subst, sym}
 use Rattle.std.proofs.lemmas.Bool.{cond-false, cond-true}
 use Rattle.std.proofs.lemmas.Str.{chars-nil}
-use Rattle.ini_text.specs.Grammar.CharacterKinds.{line_feed}
 use Rattle.ini_text.specs.Parsing.Fronts.{IsRest}
 use Rattle.ini_edit.specs.Sorting.{above_in}
 use Rattle.ini_edit.proofs.SourceLineLemmas.{none_rest}
@@ -16,7 +15,7 @@ returns-then-is_end-clause-is_rest c =
 
 pub returns-clause-above : goal.returns-clause-above
 returns-clause-above c =
-    c.above_in.ensures.above ∙ ap₂ above_in (c.last_of_source.ensures line_feed) c.after.ensures
+    c.above_in.ensures.above ∙ ap₂ above_in c.last_of_source.ensures c.after.ensures
     ∙ sym (cond-false _ _ _ c.if-is_end.false)
 
 pub returns-clause-is_rest : goal.returns-clause-is_rest

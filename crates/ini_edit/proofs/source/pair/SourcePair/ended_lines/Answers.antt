@@ -4,8 +4,8 @@ use Rattle.ini_edit.specs.SourceLines.{is_empty}
 use Rattle.ini_edit.proofs.PairEndLemmas.{closed_ended, ended_with, ended_without}
 use Rattle.ini_edit.proofs.source.pair.SourcePair.ended_lines.Goals as goal
 
-pub returns-then-not-is_empty-clause-raw_value : goal.returns-then-not-is_empty-clause-raw_value
-returns-then-not-is_empty-clause-raw_value c =
+pub returns-then-not-is_empty-clause-last_word : goal.returns-then-not-is_empty-clause-last_word
+returns-then-not-is_empty-clause-last_word c =
     sym (closed_ended c.args.read c.args.self.now (sym (ap is_empty c.end-end.ensures.line_end)
     ∙ sym c.is_empty.ensures ∙ c.if-not-is_empty.true))
 

@@ -1,13 +1,11 @@
-use Rattle.std.proofs.Common.{◌≡◌, ◌∙◌, [], ◌++◌, ap, append-nil, chars, sym}
-use Rattle.std.proofs.lemmas.Bool.{cond-false, cond-true}
+use Rattle.std.proofs.Common.{◌≡◌, ◌∙◌, ◌++◌, ap, chars}
 use Rattle.ini_text.specs.Parsing.Fronts.{front_of}
 use Rattle.ini_text.specs.Parsing.Items.{string_text}
 use Rattle.ini_edit.specs.SourceEditsComments.{pair_line}
-use Rattle.ini_edit.specs.SourceEditsDelete.{line_end_after, own_lines}
+use Rattle.ini_edit.specs.SourceEditsDelete.{own_lines}
 use Rattle.ini_edit.proofs.CommentPartLemmas.{line_end_rest}
 use Rattle.ini_edit.proofs.CharsLemmas.{chars-none}
 use Rattle.ini_edit.proofs.source.pair.SourcePair.lines.Goals as goal
-use Rattle.ini_edit.proofs.source.pair.SourcePair.lines.Goals.{then-read+in_ok-push_text, else-read}
 
 pub front_before-requires : goal.front_before-requires
 front_before-requires c =
@@ -19,20 +17,11 @@ returns-clause-lines c =
     let o = c.args.read in
     let p = c.args.self.now in
     let is = c.end-end.ensures in
-    let own = front_of (own_lines o p) (line_end_after o p) in
     let line = pair_line p.stretches in
     let first : string_text c.push_line.new.out ≡ line =
     c.in_ok-push_line.ensures.pushed
     ∙ ap (λ t. t ++ line) (ap chars c.new-lines.ensures.bytes ∙ chars-none) in
-    elim c.if-read.branch [
-      | then-read+in_ok-push_text w ↦
-          ap string_text w.lines-is ∙ w.in_ok-push_text.ensures.pushed
-          ∙ ap (λ t. t ++ chars w.front_before.result.now) first
-          ∙ ap (λ t. line ++ t) (w.front_before.ensures
-          ∙ ap (λ t. front_of t (chars c.end-end.result.line_end.now)) is.own
-          ∙ ap (front_of (own_lines o p)) is.line_end
-          ∙ sym (cond-true o.enabled_indented_mutiline_value own [] w.if-read.true))
-      | else-read w ↦
-          ap string_text w.lines-is ∙ first ∙ sym (append-nil line)
-          ∙ ap (λ t. line ++ t) (sym (cond-false o.enabled_indented_mutiline_value own [] w.if-read.false))
-    ]
+    c.in_ok-push_text.ensures.pushed ∙ ap (λ t. t ++ chars c.front_before.result.now) first
+    ∙ ap (λ t. line ++ t) (c.front_before.ensures
+    ∙ ap (λ t. front_of t (chars c.end-end.result.line_end.now)) is.own
+    ∙ ap (front_of (own_lines o p)) is.line_end)

@@ -1,4 +1,4 @@
-use Rattle.std.proofs.Common.{ap}
+use Rattle.std.proofs.Common.{Some, ap}
 use Rattle.std.proofs.lemmas.Str.{chars-nil}
 use Rattle.ini.specs.Texts.{Text}
 use Rattle.ini_text.specs.Parsing.Items.{cow_text, string_text}
@@ -10,10 +10,11 @@ returns c =
     let with_space : Text → PairPiece = λ space. record {
       stretches = record {
         key = string_text c.args.raw_key;
-        separator = c.args.separator;
+        separator = Some c.args.separator;
         space_before = cow_text c.args.space_before;
         raw_value = string_text c.args.raw_value;
         space_after = space;
+        note = space;
         trailing_lines = string_text c.args.trailing_lines;
       };
       key = string_text c.args.key;

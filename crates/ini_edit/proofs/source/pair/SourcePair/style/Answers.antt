@@ -1,6 +1,8 @@
 use Rattle.std.proofs.Common.{◌≡◌, ◌∙◌, ap, chars, [], if◌then◌else◌, sym}
 use Rattle.std.proofs.lemmas.Bool.{cond-false, cond-true}
 use Rattle.std.proofs.lemmas.Str.{chars-nil}
+use Rattle.std.specs.Option.{unwrap_or}
+use Rattle.ini_text.specs.Grammar.CharacterKinds.{equals}
 use Rattle.ini_text.specs.Parsing.Fronts.{front_of}
 use Rattle.ini_edit.specs.SourceLines.{after_blanks, blanks_at_end}
 use Rattle.ini_edit.proofs.StyleLemmas.{styled_same}
@@ -18,5 +20,6 @@ returns c =
       | then-read w ↦ ap (λ r. chars r.now) w.result-is ∙ chars-nil ∙ sym (cond-true kept _ _ w.if-read.true)
       | else-read w ↦ ap (λ r. chars r.now) w.result-is ∙ blanks ∙ sym (cond-false kept _ _ w.if-read.false)
     ] in
-    styled_same indent (c.blanks_at_end.ensures ∙ ap blanks_at_end c.raw_key-2.ensures) c.separator.ensures
+    styled_same indent (c.blanks_at_end.ensures ∙ ap blanks_at_end c.raw_key-2.ensures)
+    (c.unwrap_or.ensures ∙ ap (λ m. unwrap_or m equals) c.separator.ensures)
     (c.split_blanks-2.ensures.blanks ∙ ap (λ t. front_of t (after_blanks t)) c.space_before.ensures)

@@ -39,8 +39,8 @@ returns-clause-put c = λ p at.
     let kept = chars c.front_before-kept.result.now in
     let new = c.in_ok-pair.pair in
     let e : NewEnd = record {
-      raw_value = None;
-      trailing_lines = c.in_ok-trailing_lines_before.field-0;
+      last_word = None;
+      trailing_lines = c.in_ok-trailing_lines.trailing_lines;
       after = c.in_ok-after.after;
     } in
     let pairs = ap (λ s. s.pairs) c.self.view_is in
@@ -77,4 +77,4 @@ returns-clause-put c = λ p at.
     ∙ ap Some (sym (c.put_new_end.ensures
     ∙ put_before_place e s at new
     (ap (λ t. with_pairs t c.insert.new.self.items) c.self.view_is ∙ ap (with_pairs s) put) refl
-    (c.in_ok-trailing_lines_before.ensures.lines ∙ ap trailing_of before)))
+    (c.in_ok-trailing_lines.ensures.lines ∙ ap trailing_of before)))

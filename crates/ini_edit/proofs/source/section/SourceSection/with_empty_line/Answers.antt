@@ -30,8 +30,8 @@ returns-clause-ended c = λ after is.
     c.in_ok-kept.ensures.kept) in
     let put : Text → Text → SectionPiece = λ t b. put_after_kept o b (lines_between o end t b s) []
     (with_last_closed o (not (is_ended_for o t b s)) s) in
-    closed_put o before lines [] s new c.in_ok-raw_value.raw_value (not ended)
-    c.in_ok-raw_value.ensures.closed is_kept
+    closed_put o before lines [] s new c.in_ok-last_word.last_word (not ended)
+    c.in_ok-last_word.ensures.closed is_kept
     ∙ ap (λ l. put_after_kept o before l [] (with_last_closed o (not ended) s))
     (c.in_ok-lines.ensures.lines
     ∙ ap (λ e. cond e [] end ++ cond (ends_empty (text ++ cond e [] end)) [] end) is_ended)

@@ -2,7 +2,7 @@ use Rattle.std.proofs.Common.{◌≡◌, ◌∙◌, ◌&&◌, ◌||◌, Bool, �
 use Rattle.std.proofs.lemmas.Result.{IfOk-weaker}
 use Rattle.ini_text.specs.Grammar.CharacterKinds.{is_blank, is_comment_mark, is_line_end, is_line_feed}
 use Rattle.ini_text.specs.Grammar.Positions.{last_or}
-use Rattle.ini_text.specs.Inside.PlainTests.{begins}
+use Rattle.ini_text.specs.Grammar.CharacterKinds.{begins}
 use Rattle.ini_text.specs.Parsing.Fronts.{IsRest, front_of}
 use Rattle.ini.specs.Texts.{Text}
 use Rattle.ini_edit.specs.Inside.SourceEnds.{put_after_kept}

@@ -2,7 +2,7 @@ use Rattle.std.proofs.Common.{◌≡◌, ◌∙◌, ◌&&◌, ◌++◌, false, a
 use Rattle.std.proofs.lemmas.Bool.{and_from, and_left, and_right, cond-false, cond-true}
 use Rattle.ini_text.specs.Grammar.CharacterKinds.{is_comment_mark, line_feed}
 use Rattle.ini_text.specs.Grammar.Positions.{is_column_one, last_or}
-use Rattle.ini_text.specs.Inside.PlainTests.{begins}
+use Rattle.ini_text.specs.Grammar.CharacterKinds.{begins}
 use Rattle.ini.proofs.WritingLemmas.{chars-line_end}
 use Rattle.ini_edit.proofs.CharsLemmas.{chars-return}
 use Rattle.ini_edit.proofs.PutFirstLemmas.{begins_later, begins_sooner}

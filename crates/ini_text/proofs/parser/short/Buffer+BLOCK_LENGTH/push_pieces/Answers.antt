@@ -13,10 +13,10 @@ pub pieces-init : goal.pieces-init
 pieces-init c = record {
   text = search rules;
   within = omega arith;
-  values = subst IsUtf8 (sym c.requires) IsUtf8-nil;
-  read = sym (from_nothing _ c.requires);
+  values = subst IsUtf8 (sym c.requires.empty) IsUtf8-nil;
+  read = sym (from_nothing _ c.requires.empty);
   seen =
-      Tells-none (λ x. not (is_raw (ends_of c.args.ends) x)) 16 c.args.text.now;
+      Tells-none (λ x. not (is_raw (ends_of c.args.read c.args.ends) x)) 16 c.args.text.now;
   shorter = omega arith;
 }
 
@@ -45,7 +45,7 @@ pieces-preserved c =
       values = grown.1;
       read = and_more (chars old) (chars run ++ c.in-Some.value ∷ []) _ c.pieces.invariant.read
           (rw (c.split_at.ensures.back) piece.read) grown.0;
-      seen = Tells-past (λ x. not (is_raw (ends_of c.args.ends) x)) (c.in-Some.run_length + c.in-Some.taken)
-          c.in-Some.ensures.seen c.split_at.ensures.back;
+      seen = Tells-past (λ x. not (is_raw (ends_of c.args.read c.args.ends) x))
+          (c.in-Some.run_length + c.in-Some.taken) c.in-Some.ensures.seen c.split_at.ensures.back;
       shorter = omega (arith, piece.shorter, ap (λ x. length (chars x)) c.split_at.ensures.back);
     }

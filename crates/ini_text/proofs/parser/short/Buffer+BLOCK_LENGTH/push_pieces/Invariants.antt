@@ -16,8 +16,8 @@ invariant-pieces l = record {
   text : shadow (Utf8 l.rest);
   within : l.len ≤ 128;
   values : IsUtf8 (take l.len l.self.bytes);
-  read : string Escape (ends_of l.ends) (chars l.fn.text) ≡ prepend (chars (take l.len l.self.bytes))
-      (string Escape (ends_of l.ends) (chars l.rest));
-  seen : Sees (ends_of l.ends) l.known l.rest;
+  read : string Escape (ends_of l.read l.ends) (chars l.fn.text) ≡ prepend (chars (take l.len l.self.bytes))
+      (string Escape (ends_of l.read l.ends) (chars l.rest));
+  seen : Sees (ends_of l.read l.ends) l.known l.rest;
   shorter : length (chars l.rest) ≤ length (chars l.fn.text);
 }

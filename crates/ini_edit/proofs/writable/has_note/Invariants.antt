@@ -1,0 +1,14 @@
+use Rattle.std.proofs.Common.{◌≡◌, length, chars}
+use denote.Text.{Utf8}
+use denote.Shadow.{shadow}
+use Rattle.ini_edit.specs.Writable.{has_note}
+use Rattle.ini_edit.proofs.writable.has_note.Given as goal
+
+abbrev pub decreases-characters : goal.decreases-characters
+decreases-characters l = length (chars l.rest)
+
+abbrev pub invariant-characters : goal.invariant-characters
+invariant-characters l = record {
+  text : shadow (Utf8 l.rest);
+  note : has_note (chars l.rest) ≡ has_note (chars l.fn.value);
+}
