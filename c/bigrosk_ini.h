@@ -534,6 +534,10 @@ static inline size_t bigrosk_ini_mark(const uint8_t *text, size_t text_count)
 static inline const uint8_t *bigrosk_ini_bytes(const char *s) { return (const uint8_t *)(s ? s : ""); }
 static inline size_t bigrosk_ini_count(const char *s) { return s ? strlen(s) : 0; }
 
+/* What a section and a key are to a call. */
+#define BIGROSK_INI_AT(section, key)                                                                                    \
+    (section) != NULL, bigrosk_ini_bytes(section), bigrosk_ini_count(section), bigrosk_ini_bytes(key), bigrosk_ini_count(key)
+
 static inline uint32_t bigrosk_ini_load_str(const char *text, struct bigrosk_ini_document *document,
                                             struct bigrosk_ini_fault *fault)
 {
@@ -557,9 +561,7 @@ static inline uint32_t bigrosk_ini_get_str(struct bigrosk_ini_document *document
                                            char *value, size_t room, size_t *count)
 {
     size_t unused = 0;
-    return bigrosk_ini_get(document, section != NULL, bigrosk_ini_bytes(section), bigrosk_ini_count(section),
-                           bigrosk_ini_bytes(key), bigrosk_ini_count(key), (uint8_t *)value, room,
-                           count ? count : &unused);
+    return bigrosk_ini_get(document, BIGROSK_INI_AT(section, key), (uint8_t *)value, room, count ? count : &unused);
 }
 
 /* Whatever stood in the struct, it is BIGROSK_INI_NOTHING_BORROWED where nothing is lent. */
@@ -568,17 +570,14 @@ static inline uint32_t bigrosk_ini_borrow_str(struct bigrosk_ini_document *docum
 {
     struct bigrosk_ini_borrowed nothing = BIGROSK_INI_NOTHING_BORROWED;
     *value = nothing;
-    return bigrosk_ini_borrow(document, section != NULL, bigrosk_ini_bytes(section), bigrosk_ini_count(section),
-                              bigrosk_ini_bytes(key), bigrosk_ini_count(key), value);
+    return bigrosk_ini_borrow(document, BIGROSK_INI_AT(section, key), value);
 }
 
 static inline uint32_t bigrosk_ini_get_all_str(struct bigrosk_ini_document *document, const char *section,
                                                const char *key, uint8_t *bytes, size_t bytes_room, size_t *counts,
                                                size_t counts_room, struct bigrosk_ini_sizes *sizes)
 {
-    return bigrosk_ini_get_all(document, section != NULL, bigrosk_ini_bytes(section), bigrosk_ini_count(section),
-                               bigrosk_ini_bytes(key), bigrosk_ini_count(key), bytes, bytes_room, counts, counts_room,
-                               sizes);
+    return bigrosk_ini_get_all(document, BIGROSK_INI_AT(section, key), bytes, bytes_room, counts, counts_room, sizes);
 }
 
 static inline uint32_t bigrosk_ini_pairs_str(struct bigrosk_ini_document *document, const char *section, uint8_t *bytes,
@@ -591,8 +590,7 @@ static inline uint32_t bigrosk_ini_pairs_str(struct bigrosk_ini_document *docume
 
 static inline uint32_t bigrosk_ini_has_str(struct bigrosk_ini_document *document, const char *section, const char *key)
 {
-    return bigrosk_ini_has(document, section != NULL, bigrosk_ini_bytes(section), bigrosk_ini_count(section),
-                           bigrosk_ini_bytes(key), bigrosk_ini_count(key));
+    return bigrosk_ini_has(document, BIGROSK_INI_AT(section, key));
 }
 
 static inline uint32_t bigrosk_ini_has_section_str(struct bigrosk_ini_document *document, const char *section)
@@ -603,24 +601,19 @@ static inline uint32_t bigrosk_ini_has_section_str(struct bigrosk_ini_document *
 static inline uint32_t bigrosk_ini_set_str(struct bigrosk_ini_document *document, const char *section, const char *key,
                                            const char *value)
 {
-    return bigrosk_ini_set(document, section != NULL, bigrosk_ini_bytes(section), bigrosk_ini_count(section),
-                           bigrosk_ini_bytes(key), bigrosk_ini_count(key), bigrosk_ini_bytes(value),
-                           bigrosk_ini_count(value));
+    return bigrosk_ini_set(document, BIGROSK_INI_AT(section, key), bigrosk_ini_bytes(value), bigrosk_ini_count(value));
 }
 
 static inline uint32_t bigrosk_ini_add_str(struct bigrosk_ini_document *document, const char *section, const char *key,
                                            const char *value)
 {
-    return bigrosk_ini_add(document, section != NULL, bigrosk_ini_bytes(section), bigrosk_ini_count(section),
-                           bigrosk_ini_bytes(key), bigrosk_ini_count(key), bigrosk_ini_bytes(value),
-                           bigrosk_ini_count(value));
+    return bigrosk_ini_add(document, BIGROSK_INI_AT(section, key), bigrosk_ini_bytes(value), bigrosk_ini_count(value));
 }
 
 static inline uint32_t bigrosk_ini_delete_str(struct bigrosk_ini_document *document, const char *section,
                                               const char *key)
 {
-    return bigrosk_ini_delete(document, section != NULL, bigrosk_ini_bytes(section), bigrosk_ini_count(section),
-                              bigrosk_ini_bytes(key), bigrosk_ini_count(key));
+    return bigrosk_ini_delete(document, BIGROSK_INI_AT(section, key));
 }
 
 static inline uint32_t bigrosk_ini_delete_section_str(struct bigrosk_ini_document *document, const char *section)
@@ -634,9 +627,8 @@ static inline uint32_t bigrosk_ini_edit_set_str(const char *text, const char *se
 {
     struct bigrosk_ini_read_option read = BIGROSK_INI_READ_DEFAULT;
     struct bigrosk_ini_write_option write = BIGROSK_INI_WRITE_DEFAULT;
-    return bigrosk_ini_edit_set(bigrosk_ini_bytes(text), bigrosk_ini_count(text), &read, &write, section != NULL,
-                                bigrosk_ini_bytes(section), bigrosk_ini_count(section), bigrosk_ini_bytes(key),
-                                bigrosk_ini_count(key), bigrosk_ini_bytes(value), bigrosk_ini_count(value),
+    return bigrosk_ini_edit_set(bigrosk_ini_bytes(text), bigrosk_ini_count(text), &read, &write,
+                                BIGROSK_INI_AT(section, key), bigrosk_ini_bytes(value), bigrosk_ini_count(value),
                                 (uint8_t *)out, room, count, fault);
 }
 
@@ -645,9 +637,8 @@ static inline uint32_t bigrosk_ini_edit_add_str(const char *text, const char *se
 {
     struct bigrosk_ini_read_option read = BIGROSK_INI_READ_DEFAULT;
     struct bigrosk_ini_write_option write = BIGROSK_INI_WRITE_DEFAULT;
-    return bigrosk_ini_edit_add(bigrosk_ini_bytes(text), bigrosk_ini_count(text), &read, &write, section != NULL,
-                                bigrosk_ini_bytes(section), bigrosk_ini_count(section), bigrosk_ini_bytes(key),
-                                bigrosk_ini_count(key), bigrosk_ini_bytes(value), bigrosk_ini_count(value),
+    return bigrosk_ini_edit_add(bigrosk_ini_bytes(text), bigrosk_ini_count(text), &read, &write,
+                                BIGROSK_INI_AT(section, key), bigrosk_ini_bytes(value), bigrosk_ini_count(value),
                                 (uint8_t *)out, room, count, fault);
 }
 
@@ -655,9 +646,8 @@ static inline uint32_t bigrosk_ini_edit_delete_str(const char *text, const char 
                                                    size_t room, size_t *count, struct bigrosk_ini_fault *fault)
 {
     struct bigrosk_ini_read_option read = BIGROSK_INI_READ_DEFAULT;
-    return bigrosk_ini_edit_delete(bigrosk_ini_bytes(text), bigrosk_ini_count(text), &read, section != NULL,
-                                   bigrosk_ini_bytes(section), bigrosk_ini_count(section), bigrosk_ini_bytes(key),
-                                   bigrosk_ini_count(key), (uint8_t *)out, room, count, fault);
+    return bigrosk_ini_edit_delete(bigrosk_ini_bytes(text), bigrosk_ini_count(text), &read,
+                                   BIGROSK_INI_AT(section, key), (uint8_t *)out, room, count, fault);
 }
 
 static inline uint32_t bigrosk_ini_edit_rename_key_str(const char *text, const char *section, const char *key,
@@ -667,8 +657,7 @@ static inline uint32_t bigrosk_ini_edit_rename_key_str(const char *text, const c
     struct bigrosk_ini_read_option read = BIGROSK_INI_READ_DEFAULT;
     struct bigrosk_ini_write_option write = BIGROSK_INI_WRITE_DEFAULT;
     return bigrosk_ini_edit_rename_key(bigrosk_ini_bytes(text), bigrosk_ini_count(text), &read, &write,
-                                       section != NULL, bigrosk_ini_bytes(section), bigrosk_ini_count(section),
-                                       bigrosk_ini_bytes(key), bigrosk_ini_count(key), bigrosk_ini_bytes(new_key),
+                                       BIGROSK_INI_AT(section, key), bigrosk_ini_bytes(new_key),
                                        bigrosk_ini_count(new_key), (uint8_t *)out, room, count, fault);
 }
 
@@ -696,10 +685,6 @@ static inline uint32_t bigrosk_ini_edit_rename_section_str(const char *text, con
 }
 
 /* ---- A text in pieces, by strings that end in 0; a section of NULL is the general one. Plain C, proved by nobody. ---- */
-
-/* What a section and a key are to a call. */
-#define BIGROSK_INI_AT(section, key)                                                                                    \
-    (section) != NULL, bigrosk_ini_bytes(section), bigrosk_ini_count(section), bigrosk_ini_bytes(key), bigrosk_ini_count(key)
 
 static inline uint32_t bigrosk_ini_text_open_str(const char *bytes, struct bigrosk_ini_text *text,
                                                  struct bigrosk_ini_fault *fault)

@@ -60,6 +60,8 @@ comments() { awk -v n="$1" 'BEGIN { for (i = 0; i < n; i++) printf "; %d\n", i %
 refused() { pairs "$1"; echo '= v'; }
 escapes() { awk -v n="$1" 'BEGIN { printf "k = "; for (i = 0; i < n; i++) printf "a\\tb\\x0041"; print "" }'; }
 notes() { awk -v n="$1" 'BEGIN { for (i = 0; i < n; i++) printf "key%d = value ; note %d\n", i, i }'; }
+# and beside them, in `other`, the same with each hundredth value changed
+compared() { pairs "$1" && pairs "$1" | awk 'NR % 100 == 0 { $0 = $0 "!" } 1' >"$room/other"; }
 marks() { awk -v n="$1" 'BEGIN { printf "k = "; for (i = 0; i < n; i++) printf "a;b\\;"; print "" }'; }
 
 doubles 'pairs of one section' 0 pairs 20000 fmt
@@ -73,12 +75,13 @@ doubles 'a value full of comment marks' 0 marks 100000 --inline-comments fmt
 doubles 'pairs of one section, one set' 0 pairs 20000 set key7 v
 doubles 'pairs of one section, listed' 0 pairs 20000 list
 doubles 'a text that is refused at its end' 3 refused 20000 fmt
-# A file laid out and sorted, by the program for files.
+# A file laid out and sorted, and compared with another, by the program for files.
 : >"$room/in"
 own_of_tool=$own own=$(instructions 0 "$file" format -) of_texts=$tool tool=$file
 doubles 'separators below each other' 0 pairs 4000 format --align -
 doubles 'pairs sorted by key' 0 pairs 4000 format --sort keys -
 doubles 'sections sorted by name' 0 sections 4000 format --sort sections -
+doubles 'what differs' 1 compared 4000 diff - "$room/other"
 own=$own_of_tool tool=$of_texts
 grows_no_faster 'items' pairs 20000 items
 grows_no_faster 'elements' pairs 20000 elements

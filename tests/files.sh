@@ -16,6 +16,9 @@ usage="Try 'ini_file --help'."
 unwritable=" \"'"
 edges='
 note: white space begins or ends it'
+# why a separator is refused
+no_separator="ini_file: settings.ini: this separator can't be written so that it is read back
+note: it isn't one = or : with spaces and tabs alone around it"
 # bytes that are no UTF-8, and look like another encoding
 latin='this byte is no UTF-8; the file looks like Latin-1: use --encoding latin1'
 source='; a server\nname = one\n[server]\nport = 8080\nhost = a\\tb\nport = 9090\n[client]\n[server]\nlast = 1\n'
@@ -856,9 +859,7 @@ laying_out() {
     refused 'format of a refused text' 3 'settings.ini:2:3: no key stands before this
   =v
   ^' format settings.ini
-    refused 'format of a refused text: the separator first' 2 \
-        "ini_file: settings.ini: this separator can't be written so that it is read back
-note: it isn't one = or : with spaces and tabs alone around it" format --separator - settings.ini
+    refused 'format of a refused text: the separator first' 2 "$no_separator" format --separator - settings.ini
     printf '\377' >settings.ini
     refused 'format of bytes that are no text' 3 "settings.ini:1:1: $latin" \
         format settings.ini
@@ -913,18 +914,14 @@ separating() {
     for text in '' - == ' ' '= x' "$(printf '\n=')"; do
         for words in 'set settings.ini new v' 'add settings.ini name v' 'rewrite settings.ini'; do
             # shellcheck disable=SC2086
-            refused "${words%% *} --separator '$text'" 2 \
-                "ini_file: settings.ini: this separator can't be written so that it is read back
-note: it isn't one = or : with spaces and tabs alone around it" \
+            refused "${words%% *} --separator '$text'" 2 "$no_separator" \
                 ${words%% *} --separator "$text" ${words#* }
         done
     done
     edit 'set --separator that would not be read back, where no line is new' "$(printf '%s' "$source" | sed 's/one/two/')" \
         set --separator - settings.ini name two
     printf 'a=1\n  =v\n' >settings.ini
-    refused 'rewrite --separator of a refused text: the separator first' 2 \
-        "ini_file: settings.ini: this separator can't be written so that it is read back
-note: it isn't one = or : with spaces and tabs alone around it" rewrite --separator - settings.ini
+    refused 'rewrite --separator of a refused text: the separator first' 2 "$no_separator" rewrite --separator - settings.ini
     refused 'rewrite --separator: the text' 3 'settings.ini:2:3: no key stands before this
   =v
   ^' rewrite --separator : settings.ini

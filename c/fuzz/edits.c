@@ -56,13 +56,11 @@ static void edit_document_by(const struct listing *listing, enum edit_kind kind,
     PROMISE(load(input, input->drop_mark, input->text, &it, &f) == BIGROSK_INI_OK);
     struct listing wanted = edited_listing(listing, kind, input, &is_there);
     uint32_t status = call_document(&it, kind, input);
-    struct listing had = listing_of(&it);
     if (!are_texts(kind, input)) PROMISE(status == BIGROSK_INI_NOT_UTF8);
     else if (!is_there && kind != SET && kind != ADD) PROMISE(status == BIGROSK_INI_ABSENT);
     else PROMISE(status == BIGROSK_INI_OK);
-    PROMISE(is_same_listing(&had, status == BIGROSK_INI_OK ? &wanted : listing));
+    PROMISE(has_listing(&it, status == BIGROSK_INI_OK ? &wanted : listing));
     note(5 + kind, status);
-    free_listing(&had);
     free_listing(&wanted);
     bigrosk_ini_free(&it);
 }
@@ -105,11 +103,9 @@ static void is_edited(const struct input *input, enum edit_kind kind, const stru
     fault f = { 0, 0, 0, "" };
     PROMISE(is_utf8(text));
     PROMISE(load(input, false, text, &it, &f) == BIGROSK_INI_OK);
-    struct listing had = listing_of(&it);
-    PROMISE(is_same_listing(&had, wanted));
+    PROMISE(has_listing(&it, wanted));
     if (kind == ADD) PROMISE(in_common(text, input->text) >= input->text.count);
     if (kind == DELETE) PROMISE(in_common(text, input->text) >= text.count);
-    free_listing(&had);
     bigrosk_ini_free(&it);
 }
 

@@ -149,28 +149,15 @@ static void write_and_load(document *it, const struct listing *listing, const st
         fault f = { 0, 0, 0, "" };
         note(2, 1);
         PROMISE(bigrosk_ini_load(text, count, false, &input->read, &other, &f) == BIGROSK_INI_OK);
-        struct listing loaded = listing_of(&other);
-        PROMISE(is_same_listing(listing, &loaded));
-        free_listing(&loaded);
+        PROMISE(has_listing(&other, listing));
         bigrosk_ini_free(&other);
     }
     free(text);
 }
 
-/* No value has a line end in it, and no key where it ends with its line. */
-static void are_of_one_line(const struct listing *listing, bool is_strict)
+static bool has_line_end(const char *text, size_t count)
 {
-    struct bigrosk_ini_walk walk = bigrosk_ini_walk_over(listing->bytes, listing->counts, listing->sizes);
-    while (!bigrosk_ini_is_over(&walk)) {
-        bigrosk_ini_text(&walk, NULL);
-        for (size_t left = bigrosk_ini_number(&walk); left > 0; left--) {
-            size_t count = 0;
-            const char *key = bigrosk_ini_text(&walk, &count);
-            PROMISE(!is_strict || (!memchr(key, '\n', count) && !memchr(key, '\r', count)));
-            const char *value = bigrosk_ini_text(&walk, &count);
-            PROMISE(!memchr(value, '\n', count) && !memchr(value, '\r', count));
-        }
-    }
+    return memchr(text, '\n', count) || memchr(text, '\r', count);
 }
 
 /* Whether a comment mark stands after a blank. */
@@ -181,8 +168,8 @@ static bool has_note(const char *text, size_t count)
     return false;
 }
 
-/* No value has a note, and no key where it ends with its line. */
-static void are_without_notes(const struct listing *listing, bool is_strict)
+/* No value has such a thing, and no key where it ends with its line. */
+static void are_without(bool (*has)(const char *, size_t), const struct listing *listing, bool is_strict)
 {
     struct bigrosk_ini_walk walk = bigrosk_ini_walk_over(listing->bytes, listing->counts, listing->sizes);
     while (!bigrosk_ini_is_over(&walk)) {
@@ -190,9 +177,9 @@ static void are_without_notes(const struct listing *listing, bool is_strict)
         for (size_t left = bigrosk_ini_number(&walk); left > 0; left--) {
             size_t count = 0;
             const char *key = bigrosk_ini_text(&walk, &count);
-            PROMISE(!is_strict || !has_note(key, count));
+            PROMISE(!is_strict || !has(key, count));
             const char *value = bigrosk_ini_text(&walk, &count);
-            PROMISE(!has_note(value, count));
+            PROMISE(!has(value, count));
         }
     }
 }
@@ -200,12 +187,9 @@ static void are_without_notes(const struct listing *listing, bool is_strict)
 /* A plain document, written, loads as it is by all options too. */
 static void write_and_load_by(document *it, const struct listing *listing, const struct input *input)
 {
+    if (!bigrosk_ini_is_plain_by(it, &input->write, &input->reading)) return;
     size_t count = 0;
     uint8_t *none = filled(0);
-    if (!bigrosk_ini_is_plain_by(it, &input->write, &input->reading)) {
-        free(none);
-        return;
-    }
     PROMISE(bigrosk_ini_write(it, &input->write, none, 0, &count) == BIGROSK_INI_NO_ROOM);
     free(none);
     document other = BIGROSK_INI_EMPTY;
@@ -213,11 +197,23 @@ static void write_and_load_by(document *it, const struct listing *listing, const
     uint8_t *text = filled(count + 1);
     PROMISE(bigrosk_ini_write(it, &input->write, text, count + 1, &count) == BIGROSK_INI_OK);
     PROMISE(bigrosk_ini_load_by(text, count, false, &input->reading, &other, &f) == BIGROSK_INI_OK);
-    struct listing loaded = listing_of(&other);
-    PROMISE(is_same_listing(listing, &loaded));
-    free_listing(&loaded);
+    PROMISE(has_listing(&other, listing));
     bigrosk_ini_free(&other);
     free(text);
+}
+
+/* A text in pieces is read as a document is, here in the place of one that is loaded. */
+static void read_pieces(const struct input *input, document *it, unsigned what)
+{
+    const struct bigrosk_ini_reading *reading = &input->reading;
+    struct bytes text = input->text;
+    struct bigrosk_ini_text pieces = BIGROSK_INI_TEXT_EMPTY;
+    fault f = { 0, 0, 0, "" };
+    uint32_t told = bigrosk_ini_load_by(text.at, text.count, false, reading, it, &f);
+    PROMISE(bigrosk_ini_text_open_by(text.at, text.count, reading, &pieces, &f) == told);
+    note(what + reading->indented_comments + 4u * reading->inline_comments, told);
+    bigrosk_ini_text_close(&pieces);
+    bigrosk_ini_free(it);
 }
 
 /* A fault of a text that the first five options read, and these don't, where backslashes make no difference: of
@@ -229,13 +225,12 @@ static bool is_of_lone_line(const fault *f)
 
 /* The text by all options: as by the first five, but for backslashes where these are raw, which then keep no
  * line end and no mark, for comment marks where comments may be indented or stand after values, and for lines
- * without separator where these are refused. A text in pieces is read as a document is. */
+ * without separator where these are refused. */
 static void read_by(const struct input *input, uint32_t status, const struct listing *listing)
 {
     const struct bigrosk_ini_reading *reading = &input->reading;
     struct bytes text = input->text;
     document it = BIGROSK_INI_EMPTY;
-    struct bigrosk_ini_text pieces = BIGROSK_INI_TEXT_EMPTY;
     fault f = { 0, 0, 0, "" };
     bool is_raw = reading->raw_backslash && !reading->escapes;
     bool differs = is_raw && text.count && memchr(text.at, '\\', text.count);
@@ -251,17 +246,13 @@ static void read_by(const struct input *input, uint32_t status, const struct lis
     if (told == BIGROSK_INI_OK) {
         struct listing had = listing_of(&it);
         PROMISE(differs || is_same_listing(&had, listing));
-        if (is_raw && !reading->quotes && !reading->multiline) are_of_one_line(&had, is_strict);
+        if (is_raw && !reading->quotes && !reading->multiline) are_without(has_line_end, &had, is_strict);
         if (is_raw && !reading->quotes && reading->inline_comments)
-            are_without_notes(&had, is_strict && !reading->keep_indentation);
+            are_without(has_note, &had, is_strict && !reading->keep_indentation);
         write_and_load_by(&it, &had, input);
         free_listing(&had);
     }
-    told = bigrosk_ini_load_by(text.at, text.count, false, reading, &it, &f);
-    PROMISE(bigrosk_ini_text_open_by(text.at, text.count, reading, &pieces, &f) == told);
-    note(30u + reading->indented_comments + 4u * reading->inline_comments, told);
-    bigrosk_ini_text_close(&pieces);
-    bigrosk_ini_free(&it);
+    read_pieces(input, &it, 30);
 }
 
 /* Where lines without separator are keys alone, the text is read as where they are refused, but where one is. */
@@ -270,7 +261,6 @@ static void read_keys_alone(struct input *input)
     struct bigrosk_ini_reading strict = input->reading, *reading = &input->reading;
     struct bytes text = input->text;
     document it = BIGROSK_INI_EMPTY, other = BIGROSK_INI_EMPTY;
-    struct bigrosk_ini_text pieces = BIGROSK_INI_TEXT_EMPTY;
     fault f = { 0, 0, 0, "" }, g = { 0, 0, 0, "" };
     uint32_t status = bigrosk_ini_load_by(text.at, text.count, input->drop_mark, &strict, &other, &g);
     reading->lone_lines = BIGROSK_INI_LONE_LINES_KEYS;
@@ -281,22 +271,14 @@ static void read_keys_alone(struct input *input)
         : told == status && f.kind == g.kind && f.line == g.line && f.column == g.column);
     if (told == BIGROSK_INI_OK) {
         struct listing had = listing_of(&it);
-        if (!has_lone_line) {
-            struct listing wanted = listing_of(&other);
-            PROMISE(is_same_listing(&had, &wanted));
-            free_listing(&wanted);
-        }
+        PROMISE(has_lone_line || has_listing(&other, &had));
         if (reading->raw_backslash && !reading->escapes && !reading->quotes && !reading->multiline)
-            are_of_one_line(&had, true);
+            are_without(has_line_end, &had, true);
         write_and_load_by(&it, &had, input);
         free_listing(&had);
     }
-    told = bigrosk_ini_load_by(text.at, text.count, false, reading, &it, &f);
-    PROMISE(bigrosk_ini_text_open_by(text.at, text.count, reading, &pieces, &f) == told);
-    note(32u + reading->indented_comments + 4u * reading->inline_comments, told);
-    bigrosk_ini_text_close(&pieces);
+    read_pieces(input, &it, 32);
     bigrosk_ini_free(&other);
-    bigrosk_ini_free(&it);
     *reading = strict;
 }
 

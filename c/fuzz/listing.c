@@ -39,6 +39,14 @@ bool is_same_listing(const struct listing *one, const struct listing *other)
         && memcmp(one->counts, other->counts, one->sizes.counts * sizeof *one->counts) == 0;
 }
 
+bool has_listing(document *it, const struct listing *wanted)
+{
+    struct listing had = listing_of(it);
+    bool is_same = is_same_listing(&had, wanted);
+    free_listing(&had);
+    return is_same;
+}
+
 static void put_number(struct listing *l, size_t number)
 {
     PROMISE(l->sizes.counts < l->rooms.counts);

@@ -54,6 +54,7 @@ struct listing listing_of(document *it);
 struct listing edited_listing(const struct listing *old, enum edit_kind kind, const struct input *input,
     bool *is_there);
 bool is_same_listing(const struct listing *one, const struct listing *other);
+bool has_listing(document *it, const struct listing *wanted);
 void free_listing(struct listing *it);
 
 /* look_ups.c */

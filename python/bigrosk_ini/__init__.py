@@ -49,9 +49,9 @@ from __future__ import annotations
 import ctypes
 from collections.abc import MutableMapping
 
-from ._calls import BROKEN, KINDS, NO_ROOM, NOT_UTF8, Broken, Fault, FirstFive, Handle, Listing
-from ._calls import ReadOption, RLock, Unwritable, WriteOption, bytes_of, copied_out, dialect, help_for
-from ._calls import is_done, library, options_of, shown, text_words, words_of
+from ._calls import BROKEN, KINDS, NO_ROOM, Broken, Fault, FirstFive, Handle, Listing, ReadOption, RLock
+from ._calls import Unwritable, WriteOption, bytes_of, copied_out, dialect, help_for, is_done, library
+from ._calls import options_of, raise_refused, shown, text_words, words_of
 from ._differences import Change, Conflict, Conflicting, apply, diff, merge3
 from ._refusals import Error, Mistyped, NoOption, NoSection, SectionThere
 from ._settings import Settings, SettingsSection, load
@@ -94,11 +94,7 @@ class Document:
         whole, file = bytes_of(text)
         read = option or self._read
         status = library.bigrosk_ini_load_by(whole, len(whole), drop_mark, read, self._it, fault)
-        if status == BROKEN:
-            raise Broken(fault, file, help_for(text))
-        if status == NOT_UTF8 and file is not None:
-            raise UnicodeError(f"{file}: not UTF-8")
-        is_done(status)
+        raise_refused(status, fault, file, help_for(text))
 
     def __del__(self) -> None:
         if hasattr(self, "_it"):

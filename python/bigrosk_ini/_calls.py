@@ -73,6 +73,22 @@ class Sizes(ctypes.Structure):
     _fields_ = [("bytes", ctypes.c_size_t), ("counts", ctypes.c_size_t)]
 
 
+class FirstFive(ctypes.Structure):
+    """The options that the calls which edit bytes know."""
+
+    _fields_ = [
+        ("quotes", ctypes.c_bool),
+        ("escapes", ctypes.c_bool),
+        ("multiline", ctypes.c_bool),
+        ("keep_indentation", ctypes.c_bool),
+        ("brackets", ctypes.c_bool),
+    ]
+
+    def __init__(self, read: Optional[ReadOption] = None) -> None:
+        it = read or ReadOption()
+        super().__init__(it.quotes, it.escapes, it.multiline, it.keep_indentation, it.brackets)
+
+
 class ReadOption(ctypes.Structure):
     """How a text is read. With raw_backslash, where escapes are off, a backslash is a character like any
     other, before a line feed too. With lone_lines="refused" a text is refused where no separator follows a key
@@ -82,11 +98,7 @@ class ReadOption(ctypes.Structure):
 
     _fields_ = [
         ("size", ctypes.c_uint8),
-        ("quotes", ctypes.c_bool),
-        ("escapes", ctypes.c_bool),
-        ("multiline", ctypes.c_bool),
-        ("keep_indentation", ctypes.c_bool),
-        ("brackets", ctypes.c_bool),
+        *FirstFive._fields_,
         ("raw_backslash", ctypes.c_bool),
         ("_lone_lines", ctypes.c_uint8),
         ("indented_comments", ctypes.c_bool),
@@ -124,22 +136,6 @@ class ReadOption(ctypes.Structure):
     def has_later_ones(self) -> bool:
         """Whether an option that FirstFive lacks is another than by default."""
         return bool(self.raw_backslash or self._lone_lines or self.indented_comments or self.inline_comments)
-
-
-class FirstFive(ctypes.Structure):
-    """The options that the calls which edit bytes know."""
-
-    _fields_ = [
-        ("quotes", ctypes.c_bool),
-        ("escapes", ctypes.c_bool),
-        ("multiline", ctypes.c_bool),
-        ("keep_indentation", ctypes.c_bool),
-        ("brackets", ctypes.c_bool),
-    ]
-
-    def __init__(self, read: Optional[ReadOption] = None) -> None:
-        it = read or ReadOption()
-        super().__init__(it.quotes, it.escapes, it.multiline, it.keep_indentation, it.brackets)
 
 
 class WriteOption(ctypes.Structure):
@@ -250,6 +246,15 @@ def is_done(status: int) -> bool:
     if status == UNKNOWN_OPTION:
         raise ValueError("a number stands for no option")
     return status == OK
+
+
+def raise_refused(status: int, fault: Fault, file: Optional[str], help: str) -> None:
+    """Raises what a text that was to be opened is refused for; the file is named that it was read from."""
+    if status == BROKEN:
+        raise Broken(fault, file, help)
+    if status == NOT_UTF8 and file is not None:
+        raise UnicodeError(f"{file}: not UTF-8")
+    is_done(status)
 
 
 def shown(it: object) -> str:

@@ -5,8 +5,8 @@ import ctypes
 import os
 from collections.abc import Mapping, MutableMapping
 
-from ._calls import BROKEN, NOT_UTF8, THERE, Broken, Fault, Handle, Listing, Place, RLock, bytes_of
-from ._calls import copied_out, help_for, is_done, library, options_of, read_whole, shown, text_words, words_of
+from ._calls import THERE, Fault, Handle, Listing, Place, RLock, bytes_of, copied_out, help_for, is_done
+from ._calls import library, options_of, raise_refused, read_whole, shown, text_words, words_of
 from ._refusals import Mistyped, NoOption, NoSection, SectionThere
 
 TYPE_CHECKING = False
@@ -63,11 +63,7 @@ class Settings(MutableMapping["Optional[str]", "SettingsSection"]):
         status = self._call(
             lambda it, *words: library.bigrosk_ini_text_open_by(*words, it, fault), own, len(own), self._read
         )
-        if status == BROKEN:
-            raise Broken(fault, file, help)
-        if status == NOT_UTF8 and file is not None:
-            raise UnicodeError(f"{file}: not UTF-8")
-        is_done(status)
+        raise_refused(status, fault, file, help)
         self._mark = mark
 
     def __del__(self) -> None:

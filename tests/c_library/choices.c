@@ -96,7 +96,7 @@ static void readings(void)
     struct bigrosk_ini_reading r = BIGROSK_INI_READING_DEFAULT;
     document d = BIGROSK_INI_EMPTY;
     fault f;
-    CHECK(r.size == sizeof r && r.size == 10);
+    CHECK(r.size == sizeof r && r.size == 10 && offsetof(struct bigrosk_ini_reading, indented_comments) == 8);
     CHECK(!are_read(&r, "C:xk=v", false)); /* \x begins an escape, and is broken */
     r.raw_backslash = true;
     CHECK(bigrosk_ini_load_by((const uint8_t *)"k=a\\tb\n", 7, true, &r, &d, &f) == BIGROSK_INI_OK);
@@ -236,82 +236,68 @@ static void keys_alone(void)
     bigrosk_ini_text_close(&t);
 }
 
-/* Indented comments, among the lines of a value too, and after CR; numbers that stand for nothing, and a size that doesn't
- * reach them. */
+/* a text, and what a document of it is written as where comments of a kind are read, and where not: NULL where it is refused */
+struct commented { const char *text, *with, *without; bool multiline; };
+
+/* An option on comments, the one that stands at this place: what rows say of it, numbers that stand for nothing, and a size that
+ * doesn't reach it. By default a document of `text` is plain; the dialect has the number 1 for the option before this one. */
+static void comments(const struct commented *rows, size_t count, size_t place, const char *text, const char *dialect)
+{
+    struct bigrosk_ini_reading r = BIGROSK_INI_READING_DEFAULT, later = r;
+    uint8_t *option = (uint8_t *)&later + place;
+    document d = BIGROSK_INI_EMPTY;
+    fault f = { 77, 7, 7, "seven" };
+    CHECK(*option == 0);
+    for (size_t i = 0; i < count; i++)
+        for (int number = 0; number < 2; number++) {
+            const char *want = number ? rows[i].with : rows[i].without;
+            later.multiline = rows[i].multiline;
+            *option = (uint8_t)number;
+            CHECK(answered(&later, rows[i].text, &f) == (want ? BIGROSK_INI_OK : BIGROSK_INI_BROKEN));
+            CHECK(!want || has_document(&later, rows[i].text, want));
+        }
+    CHECK(bigrosk_ini_load_str(text, &d, &f) == BIGROSK_INI_OK);
+    /* with the option it is one where no mark stands in it */
+    CHECK(bigrosk_ini_is_plain_by(&d, &plain, &r) && bigrosk_ini_is_plain_by(&d, &plain, &later) == !strchr(text, ';'));
+    for (int number = 2; number < 256; number++) {
+        later = r;
+        *option = (uint8_t)number;
+        CHECK(answered(&later, "k=v\n", &f) == BIGROSK_INI_UNKNOWN_OPTION && answered(&later, "\xff", &f) == BIGROSK_INI_NOT_UTF8);
+        CHECK(!bigrosk_ini_is_plain_by(&d, &plain, &later));
+        /* a program that was compiled before */
+        later.size = (uint8_t)place;
+        CHECK(answered(&later, "k=v\n", &f) == BIGROSK_INI_OK && bigrosk_ini_is_plain_by(&d, &plain, &later));
+        struct bigrosk_ini_write_option w = plain;
+        CHECK(bigrosk_ini_dialect_by_str(dialect, &later, &w) == BIGROSK_INI_OK && later.size == place);
+        CHECK(option[-1] == 1 && *option == number);
+    }
+    bigrosk_ini_free(&d);
+}
+
+/* Indented comments, among the lines of a value too, and after CR. */
 static void indented_comments(void)
 {
-    static const struct { const char *text, *with, *without; bool multiline; } rows[] = {
+    static const struct commented rows[] = {
         { "  ; c\nk=v\n", "k=v\n", "; c\\nk=v\n", false },   { "\t# a=b", "", "# a=b\n", false },
         { "  \\;a=b\n", ";a=b\n", ";a=b\n", false },          { "k=v\r# c\rj=w\n", "k=v\nj=w\n", NULL, false },
         { "k=v\r  # c\rj=w\n", "k=v\nj=w\n", "k=v\n# c\\rj=w\n", false },
         { "k=a\n ; c\n b\n", "k=a\\nb\n", "k=a\\n; c\\nb\n", true },
         { "k=a\n; c\n b\n", "k=a\n", "k=a\n", true },       { "[a] ; c\n", NULL, NULL, false },
     };
-    struct bigrosk_ini_reading r = BIGROSK_INI_READING_DEFAULT, later = r;
-    document d = BIGROSK_INI_EMPTY;
-    fault f = { 77, 7, 7, "seven" };
-    CHECK(r.indented_comments == 0);
-    for (size_t i = 0; i < sizeof rows / sizeof *rows; i++)
-        for (int number = 0; number < 2; number++) {
-            const char *want = number ? rows[i].with : rows[i].without;
-            later.multiline = rows[i].multiline;
-            later.indented_comments = (uint8_t)number;
-            CHECK(answered(&later, rows[i].text, &f) == (want ? BIGROSK_INI_OK : BIGROSK_INI_BROKEN));
-            CHECK(!want || has_document(&later, rows[i].text, want));
-        }
-    CHECK(bigrosk_ini_load_str("k=v\n", &d, &f) == BIGROSK_INI_OK);
-    for (int number = 2; number < 256; number++) {
-        later = r;
-        later.indented_comments = (uint8_t)number;
-        CHECK(answered(&later, "k=v\n", &f) == BIGROSK_INI_UNKNOWN_OPTION && answered(&later, "\xff", &f) == BIGROSK_INI_NOT_UTF8);
-        CHECK(!bigrosk_ini_is_plain_by(&d, &plain, &later));
-        /* a program that was compiled before */
-        later.size = offsetof(struct bigrosk_ini_reading, indented_comments);
-        CHECK(answered(&later, "k=v\n", &f) == BIGROSK_INI_OK && bigrosk_ini_is_plain_by(&d, &plain, &later));
-        struct bigrosk_ini_write_option w = plain;
-        CHECK(bigrosk_ini_dialect_by_str("strict", &later, &w) == BIGROSK_INI_OK && later.size == 8);
-        CHECK(later.lone_lines == BIGROSK_INI_LONE_LINES_REFUSED && later.indented_comments == number);
-    }
-    bigrosk_ini_free(&d);
+    comments(rows, sizeof rows / sizeof *rows, offsetof(struct bigrosk_ini_reading, indented_comments), "k=v\n", "strict");
 }
 
-/* Inline comments, after values and names; the same numbers, and a size that doesn't reach them. */
+/* Inline comments, after values and names. */
 static void inline_comments(void)
 {
-    static const struct { const char *text, *with, *without; bool multiline; } rows[] = {
+    static const struct commented rows[] = {
         { "k = v ; n\n", "k=v\n", "k=v ; n\n", false },       { "k = ; n\n", "k=; n\n", "k=; n\n", false },
         { "k=a;b\t#c\n", "k=a;b\n", "k=a;b\\t#c\n", false },  { "k=a\\ ;b\n", "k=a ;b\n", "k=a ;b\n", false },
         { "[a];n\nk=v\n", "[a]\nk=v\n", NULL, false },        { "k=v\r; c\rj=w\n", "k=v\nj=w\n", NULL, false },
         { "k='a ;b' ; c\n", "k=a ;b\n", "k=a ;b ; c\n", false }, { "  ; c\nk=v\n", "; c\\nk=v\n", "; c\\nk=v\n", false },
         { "k=a ; n\n b # m\n", "k=a\\nb\n", "k=a ; n\\nb # m\n", true },
     };
-    struct bigrosk_ini_reading r = BIGROSK_INI_READING_DEFAULT, later = r;
-    document d = BIGROSK_INI_EMPTY;
-    fault f = { 77, 7, 7, "seven" };
-    CHECK(r.inline_comments == 0);
-    for (size_t i = 0; i < sizeof rows / sizeof *rows; i++)
-        for (int number = 0; number < 2; number++) {
-            const char *want = number ? rows[i].with : rows[i].without;
-            later.multiline = rows[i].multiline;
-            later.inline_comments = (uint8_t)number;
-            CHECK(answered(&later, rows[i].text, &f) == (want ? BIGROSK_INI_OK : BIGROSK_INI_BROKEN));
-            CHECK(!want || has_document(&later, rows[i].text, want));
-        }
-    CHECK(bigrosk_ini_load_str("k=a ;b\n", &d, &f) == BIGROSK_INI_OK);
-    CHECK(bigrosk_ini_is_plain_by(&d, &plain, &r) && !bigrosk_ini_is_plain_by(&d, &plain, &later));
-    for (int number = 2; number < 256; number++) {
-        later = r;
-        later.inline_comments = (uint8_t)number;
-        CHECK(answered(&later, "k=v\n", &f) == BIGROSK_INI_UNKNOWN_OPTION && answered(&later, "\xff", &f) == BIGROSK_INI_NOT_UTF8);
-        CHECK(!bigrosk_ini_is_plain_by(&d, &plain, &later));
-        /* a program that was compiled before */
-        later.size = offsetof(struct bigrosk_ini_reading, inline_comments);
-        CHECK(answered(&later, "k=v\n", &f) == BIGROSK_INI_OK && bigrosk_ini_is_plain_by(&d, &plain, &later));
-        struct bigrosk_ini_write_option w = plain;
-        CHECK(bigrosk_ini_dialect_by_str("git", &later, &w) == BIGROSK_INI_OK && later.size == 9);
-        CHECK(later.indented_comments == 1 && later.inline_comments == number);
-    }
-    bigrosk_ini_free(&d);
+    comments(rows, sizeof rows / sizeof *rows, offsetof(struct bigrosk_ini_reading, inline_comments), "k=a ;b\n", "git");
 }
 
 /* whether the value, set in a document and in a text, is written so by the option; where it is no plain one, not in a text */

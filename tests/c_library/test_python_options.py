@@ -25,6 +25,16 @@ def same(had, wanted):
     assert had == wanted, f"{had!r} in place of {wanted!r}"
 
 
+def is_edited(wanted, edit, text, *words, **options):
+    """Whether the edit gives the new text, of a str and of bytes, each after a mark too, or raises what is wanted."""
+    if isinstance(wanted, type):
+        same(type(raised(edit, text, *words, **options)), wanted)
+        return
+    for mark in ("", MARK):
+        same(edit(mark + text, *words, **options), mark + wanted)
+        same(edit((mark + text).encode(), *words, **options), (mark + wanted).encode())
+
+
 # Each option of reading, the value that isn't its default, a text where it tells, and what is read with it
 # and without it.
 READ = [
@@ -105,7 +115,6 @@ def raw_backslashes():
         same(Document("p=a\\\\b\\\nk=v\n", read).walk(), [(None, [("p", "a\\bk=v")])])
     bare = WriteOption(0)
     same([Document(PATHS, RAW).is_plain(bare, read) for read in (RAW, off, None)], [True, False, False])
-    # each edit, as str and as bytes after a mark
     for call, words, wanted in (
         (edit_set, (None, "p", "D:\\"), PATHS.replace("C:\\x", "D:")),
         (edit_set, ("a\\", "n\\", "2\\"), PATHS + "n\\=2\\\n"),
@@ -116,8 +125,7 @@ def raw_backslashes():
         (edit_rename_section, ("a\\", "b\\"), PATHS.replace("[a", "[b")),
     ):
         options = {"read": RAW} if call in (edit_delete, edit_delete_section) else {"read": RAW, "write": bare}
-        same(call(PATHS, *words, **options), wanted)
-        same(call((MARK + PATHS).encode(), *words, **options), (MARK + wanted).encode())
+        is_edited(wanted, call, PATHS, *words, **options)
     for call, words, wanted in (
         (edit_set, (PATHS, None, "p", " \"'"), Unwritable),
         (edit_delete, (PATHS, None, "z"), KeyError),
@@ -125,8 +133,7 @@ def raw_backslashes():
         (edit_delete, ("k=v\n=\n", None, "k"), Broken),
         (edit_delete, (b"\xff", None, "k"), UnicodeError),
     ):
-        error = raised(call, *words, read=RAW)
-        assert isinstance(error, wanted), error
+        is_edited(wanted, call, *words, read=RAW)
     # a dialect's
     same([dialect(name)[0].raw_backslash for name in ("python", "systemd", "crate")], [True, False, False])
     same(Settings("p=C:\\\nk=v\n", dialect="python").get(None, "k"), "v")
@@ -152,7 +159,6 @@ def lone_lines():
         same(list(call("[s]\n  abc", KEYS).walk()), [(None, []), ("s", [("abc", "")])])
         error = raised(call, "\\\n\n", KEYS)
         same((type(error), error.line, error.column, error.kind), (Broken, 3, 1, "missing key"))
-    # each edit, as str and as bytes after a mark
     for call, words, wanted in (
         (edit_set, (None, "k", "w"), "k=w\n[s]\n"),
         (edit_add, ("s", "j", "w"), "k=v\n[s]\nj=w\n"),
@@ -161,8 +167,7 @@ def lone_lines():
         (edit_delete_section, ("s",), "k=v\n"),
         (edit_rename_section, ("s", "t"), "k=v\n[t]\n"),
     ):
-        same(call("k=v\n[s]\n", *words, read=STRICT), wanted)
-        same(call((MARK + "k=v\n[s]\n").encode(), *words, read=STRICT), (MARK + wanted).encode())
+        is_edited(wanted, call, "k=v\n[s]\n", *words, read=STRICT)
         same(raised(call, "k=v\n[s]\nj\n", *words, read=STRICT).kind, "no separator")
     for call, words, wanted in (
         (edit_set, (None, "k", "w"), "k=w\n[s]\n"),
@@ -172,7 +177,7 @@ def lone_lines():
         (edit_rename_key, (None, "k", "j"), "j\n[s]\n"),
         (edit_delete_section, ("s",), "k\n"),
     ):
-        same(call("k\n[s]\n", *words, read=KEYS), wanted)
+        is_edited(wanted, call, "k\n[s]\n", *words, read=KEYS)
     # by words, and by these alone
     option = ReadOption()
     option.lone_lines = "refused"
@@ -209,7 +214,6 @@ def indented_comments():
         same(raised(call, "k=v\r; c\rj=w\n").kind, "inline comment")
         lines = ReadOption(multiline=True, indented_comments=True)
         same(list(call("k=a\n ; c\n b\n; d\n", lines).walk()), [(None, [("k", "a\nb")])])
-    # each edit, as str and as bytes after a mark
     for call, words, wanted in (
         (edit_set, (None, "k", "w"), text.replace("k=v", "k=w")),
         (edit_add, ("s", "i", "u"), text + "  i=u\n"),
@@ -218,8 +222,7 @@ def indented_comments():
         (edit_delete_section, ("s",), "k=v\n  ; c\n"),
         (edit_rename_section, ("s", "t"), text.replace("[s]", "[t]")),
     ):
-        same(call(text, *words, read=COMMENTED), wanted)
-        same(call((MARK + text).encode(), *words, read=COMMENTED), (MARK + wanted).encode())
+        is_edited(wanted, call, text, *words, read=COMMENTED)
     option = ReadOption()
     option.indented_comments = True
     same(list(Document("  ; c\n", option).walk()), [(None, [])])
@@ -243,7 +246,6 @@ def inline_comments():
         same(list(call("k=v\r; c\rj=a;b\n", NOTED).walk()), [(None, [("k", "v"), ("j", "a;b")])])
         both = ReadOption(multiline=True, indented_comments=True, inline_comments=True)
         same(list(call("k=a ; n\n ; c\n b # m\n", both).walk()), [(None, [("k", "a\nb")])])
-    # each edit, as str and as bytes after a mark
     for call, words, wanted in (
         (edit_set, (None, "k", "w"), text.replace("k=v", "k=w")),
         (edit_set, ("s", "j", "a ;b"), text.replace("'w'", "'a ;b'")),
@@ -253,8 +255,7 @@ def inline_comments():
         (edit_delete_section, ("s",), "k=v ; c\n"),
         (edit_rename_section, ("s", "t"), text.replace("[s]", "[t]")),
     ):
-        same(call(text, *words, read=NOTED), wanted)
-        same(call((MARK + text).encode(), *words, read=NOTED), (MARK + wanted).encode())
+        is_edited(wanted, call, text, *words, read=NOTED)
     option = ReadOption()
     option.inline_comments = True
     same(list(Document("k=v #", option).walk()), [(None, [("k", "v")])])
@@ -373,17 +374,6 @@ EDITS_WRITTEN = [
     (edit_rename_key, ("k=1\n", None, "k", "ü"), {"policy": 5}, "\\x00fc=1\n", "ü=1\n"),
     (edit_rename_section, ("[s]\n", "s", "ü"), {"policy": 5}, "[\\x00fc]\n", "[ü]\n"),
 ]
-
-
-def is_edited(wanted, edit, *words, **options):
-    """Whether the edit gives the new text, of a str and of bytes, or raises what is wanted."""
-    text, *rest = words
-    if isinstance(wanted, str):
-        same(edit(text, *rest, **options), wanted)
-        same(edit(text.encode(), *rest, **options), wanted.encode())
-        same(edit(MARK + text, *rest, **options), MARK + wanted)
-    else:
-        same(type(raised(edit, text, *rest, **options)), wanted)
 
 
 def edits():

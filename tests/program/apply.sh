@@ -1,19 +1,11 @@
 # Changes in other forms, and edits applied to a file, by ini_file: read by tests/program.sh, of which it has `count`, `told`, `is`
-# and the folder `room`, with the programs in it, and by side of sides.sh.
+# and the folder `room`, with the programs in it, and by side and differ of sides.sh.
 # shellcheck shell=sh disable=SC2154
 mkdir "$room/apply"
 cd "$room/apply" || exit 1
 
-# Worked out by hand. A row is options, two texts with escapes, and the lines of what differs.
-while IFS='|' read -r words from to want; do
-    side from.ini "$from"
-    side to.ini "$to"
-    side lines "$want"
-    if [ -n "$want" ]; then status=1; else status=0; fi
-    # shellcheck disable=SC2086
-    "$room/bin/ini_file" $words diff from.ini to.ini >"$room/out" 2>"$room/err"
-    wrote "ini_file $words diff, '$from' and '$to'" $? $status lines
-done <<'ROWS'
+# Worked out by hand.
+differ <<'ROWS'
 --format=edits|k=1\n|k=1\n|
 --format=edits|k=1\n|k=2\n|\tk\t-1\t+2\n
 --format=edits||[a]\nk=1\n|[a]\tk\t\t+1\n

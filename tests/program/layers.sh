@@ -37,15 +37,15 @@ refuses() {
 layers 'two files' 0 "$room/merged" one.ini two.ini
 layers 'an empty file' 0 "$room/nothing" empty
 layers 'empty files between' 0 "$room/merged" empty one.ini empty two.ini empty
-n=0
 # shellcheck disable=SC2016,SC1003
-for name in a.ini ' a.ini' 'a.ini ' ' a.ini ' a b 'a b' "it's" '"a.ini"' '*.ini' '$HOME' '\' "$(printf 'a\nb')"; do
+set -- a.ini ' a.ini' 'a.ini ' ' a.ini ' a b 'a b' "it's" '"a.ini"' '*.ini' '$HOME' '\' "$(printf 'a\nb')"
+n=0
+for name; do
     n=$((n + 1))
     echo "k=$n" >"$here/$name"
 done
 n=0
-# shellcheck disable=SC2016,SC1003
-for name in a.ini ' a.ini' 'a.ini ' ' a.ini ' a b 'a b' "it's" '"a.ini"' '*.ini' '$HOME' '\' "$(printf 'a\nb')"; do
+for name; do
     n=$((n + 1))
     echo "k=$n" >"$room/merged"
     layers "a file named '$name'" 0 "$room/merged" "$name"

@@ -9,16 +9,21 @@ side() {
     printf '%b' "$2" >"$1"
 }
 
-# Worked out by hand. A row is options, two texts with escapes, and the lines of what differs.
-while IFS='|' read -r words from to want; do
-    side from.ini "$from"
-    side to.ini "$to"
-    side lines "$want"
-    if [ -n "$want" ]; then status=1; else status=0; fi
-    # shellcheck disable=SC2086
-    "$room/bin/ini_file" $words diff from.ini to.ini >"$room/out" 2>"$room/err"
-    wrote "ini_file $words diff, '$from' and '$to'" $? $status lines
-done <<'ROWS'
+# differ: a row of its input is options, two texts with escapes, and the lines of what differs
+differ() {
+    while IFS='|' read -r words from to want; do
+        side from.ini "$from"
+        side to.ini "$to"
+        side lines "$want"
+        if [ -n "$want" ]; then status=1; else status=0; fi
+        # shellcheck disable=SC2086
+        "$room/bin/ini_file" $words diff from.ini to.ini >"$room/out" 2>"$room/err"
+        wrote "ini_file $words diff, '$from' and '$to'" $? $status lines
+    done
+}
+
+# Worked out by hand.
+differ <<'ROWS'
 |||
 |k=1\n|; c\n  k = "1"\n\n|
 |k=1\n|k=2\n|k: 1 -> 2\n

@@ -377,40 +377,29 @@ def store(arguments):
     return 0 if all(counts[option.flags()] for option in OPTIONS) else 1
 
 
+def add_command(commands, name, run, words, sizes=()):
+    """A command of these words, with these sizes where none are given."""
+    command = commands.add_parser(name)
+    command.set_defaults(run=run)
+    for word in words:
+        command.add_argument(word)
+    for option, size in zip(("--less", "--random", "--damaged", "--seed"), sizes):
+        command.add_argument(option, type=int, default=size)
+    return command
+
+
 def main():
     parser = argparse.ArgumentParser(description=__doc__, formatter_class=argparse.RawDescriptionHelpFormatter)
     commands = parser.add_subparsers(required=True)
-    command = commands.add_parser("texts")
-    command.set_defaults(run=compare_texts)
-    command.add_argument("answers")
-    command.add_argument("crate")
-    command.add_argument("brackets")
+    three = ("answers", "crate", "brackets")
+    command = add_command(commands, "texts", compare_texts, three, (0, 100_000, 20_000, 1))
     command.add_argument("--written", action="store_true")
-    for name, size in (("--less", 0), ("--random", 100_000), ("--damaged", 20_000), ("--seed", 1)):
-        command.add_argument(name, type=int, default=size)
     lacking = (("raw", compare_raw), ("lone", compare_lone), ("keys", compare_keys), ("comments", compare_comments))
     for lacked, run in (*lacking, ("notes", compare_notes)):
-        command = commands.add_parser(lacked)
-        command.set_defaults(run=run)
-        command.add_argument("answers")
-        for name, size in (("--less", 2), ("--random", 20_000), ("--damaged", 5_000), ("--seed", 1)):
-            command.add_argument(name, type=int, default=size)
-    command = commands.add_parser("crate-notes")
-    command.set_defaults(run=compare_crate_notes)
-    for name in ("answers", "crate", "brackets"):
-        command.add_argument(name)
-    for name, size in (("--less", 2), ("--random", 100_000), ("--damaged", 5_000), ("--seed", 1)):
-        command.add_argument(name, type=int, default=size)
-    command = commands.add_parser("departures")
-    command.set_defaults(run=show_departures)
-    command.add_argument("answers")
-    command.add_argument("crate")
-    command.add_argument("notes", nargs="*")
-    command = commands.add_parser("stored")
-    command.set_defaults(run=store)
-    command.add_argument("crate")
-    command.add_argument("brackets")
-    command.add_argument("folder")
+        add_command(commands, lacked, run, ("answers",), (2, 20_000, 5_000, 1))
+    add_command(commands, "crate-notes", compare_crate_notes, three, (2, 100_000, 5_000, 1))
+    add_command(commands, "departures", show_departures, ("answers", "crate")).add_argument("notes", nargs="*")
+    add_command(commands, "stored", store, ("crate", "brackets", "folder"))
     arguments = parser.parse_args()
     sys.exit(arguments.run(arguments))
 

@@ -15,6 +15,7 @@ COMMENTS = DEFAULT._replace(comments=True)
 NOTES = DEFAULT._replace(notes=True)
 INDENT = DEFAULT._replace(indent=True)
 BASICS = Writing("Basics", "\n", "=")
+BARE = BASICS._replace(policy="Nothing")
 CRLF = Writing("Reserved", "\r\n", " = ")
 
 # The option set, the section, the key, and the text.
@@ -221,49 +222,51 @@ def document_examples():
         yield Question("add", option, writing, name, key, "v", text)
 
 
-def plain_and_unplain():
-    """Values, keys and separators, some of them plain, and names that are and aren't there."""
-    policies = itertools.cycle(POLICIES)
-    for value in VALUES:
-        yield Question("set_existing", DEFAULT, BASICS, None, "k", value, "k = v \n")
-        yield Question("add", DEFAULT, BASICS._replace(policy=next(policies)), None, "k", value, "j=w")
-    raw = BASICS._replace(policy="Nothing")
+def backslashes():
+    """Values with backslashes where escapes are off, and texts whose lines end in them."""
     for text, value in itertools.product(RAW_TEXTS, RAW_VALUES):
         for call in ("set_existing", "set", "add"):
-            yield Question(call, ESCAPES_OFF, raw, None, "path", value, text)
-        yield Question("set", RAW_BACKSLASHES, raw, None, "path", value, text)
+            yield Question(call, ESCAPES_OFF, BARE, None, "path", value, text)
+        yield Question("set", RAW_BACKSLASHES, BARE, None, "path", value, text)
     for text in RAW_LINES:
         for key, call in itertools.product(("k", "j\\"), ("delete", "rename_key", "set", "add")):
-            yield Question(call, RAW_BACKSLASHES, raw, None, key, "n\\", text)
-        yield Question("rename_section", RAW_BACKSLASHES, raw, "a\\", "", "n\\", text)
-        yield Question("delete_section", RAW_BACKSLASHES, raw, "a\\", "", "", text)
+            yield Question(call, RAW_BACKSLASHES, BARE, None, key, "n\\", text)
+        yield Question("rename_section", RAW_BACKSLASHES, BARE, "a\\", "", "n\\", text)
+        yield Question("delete_section", RAW_BACKSLASHES, BARE, "a\\", "", "", text)
+
+
+def pair_edits(option, text):
+    """Edits of the key k in the general section and in another."""
+    for name, call in itertools.product((None, "a"), ("set", "add", "delete", "rename_key")):
+        yield Question(call, option, BASICS, name, "k", "n", text)
+
+
+def section_edits(option, text):
+    yield Question("rename_section", option, BASICS, "a", "", "n", text)
+    yield Question("delete_section", option, BASICS, "a", "", "", text)
+
+
+def lone_lines():
+    """Lines without separator, where they are refused and where they are keys alone."""
     for text in STRICT_TEXTS:
-        for name, call in itertools.product((None, "a"), ("set", "add", "delete", "rename_key")):
-            yield Question(call, STRICT, BASICS, name, "k", "n", text)
+        yield from pair_edits(STRICT, text)
         yield Question("rename_section", STRICT, BASICS, "a", "", "n", text)
         yield Question("delete_section", STRICT._replace(multiline=True), BASICS, "a", "", "", text)
     for text, option in itertools.product(KEY_TEXTS, KEY_OPTIONS):
-        for name, call in itertools.product((None, "a"), ("set", "add", "delete", "rename_key")):
-            yield Question(call, option, BASICS, name, "k", "n", text)
+        yield from pair_edits(option, text)
         yield Question("set_existing", option, BASICS, None, "k\\", "n", text)
         yield Question("add", option, CRLF, "c", "k", "n", text)
-        yield Question("rename_section", option, BASICS, "a", "", "n", text)
-        yield Question("delete_section", option, BASICS, "a", "", "", text)
-    for text, option in itertools.product(COMMENT_TEXTS, (COMMENTS, COMMENTS._replace(multiline=True))):
-        for name, call in itertools.product((None, "a"), ("set", "add", "delete", "rename_key")):
-            yield Question(call, option, BASICS, name, "k", "n", text)
+        yield from section_edits(option, text)
+
+
+def comments_and_notes():
+    """Texts with indented comments and with notes, and words that look like notes."""
+    commented = itertools.product(COMMENT_TEXTS, (COMMENTS, COMMENTS._replace(multiline=True)))
+    noted = itertools.product(NOTE_TEXTS, NOTE_OPTIONS)
+    for text, option in itertools.chain(commented, noted, itertools.product(KEY_NOTE_TEXTS, KEY_NOTE_OPTIONS)):
+        yield from pair_edits(option, text)
         yield Question("add", option, CRLF, "b", "k", "n", text)
-        yield Question("rename_section", option, BASICS, "a", "", "n", text)
-        yield Question("delete_section", option, BASICS, "a", "", "", text)
-    noted = itertools.chain(
-        itertools.product(NOTE_TEXTS, NOTE_OPTIONS), itertools.product(KEY_NOTE_TEXTS, KEY_NOTE_OPTIONS)
-    )
-    for text, option in noted:
-        for name, call in itertools.product((None, "a"), ("set", "add", "delete", "rename_key")):
-            yield Question(call, option, BASICS, name, "k", "n", text)
-        yield Question("add", option, CRLF, "b", "k", "n", text)
-        yield Question("rename_section", option, BASICS, "a", "", "n", text)
-        yield Question("delete_section", option, BASICS, "a", "", "", text)
+        yield from section_edits(option, text)
     for text, value in itertools.product(NOTE_TEXTS[:3] + KEY_NOTE_TEXTS[:1], NOTED_VALUES):
         for policy in ("Nothing", "Basics", "Reserved"):
             writing = BASICS._replace(policy=policy)
@@ -275,9 +278,18 @@ def plain_and_unplain():
             yield Question("rename_section", option, BASICS, "a", "", word, "[a] ; n\n")
             yield Question("add", option, BASICS._replace(policy="Reserved"), word, word, word, "k=v ; n")
             yield Question("add", option, BASICS, word, word, word, "k=v ; n")
+
+
+def plain_and_unplain():
+    """Values, keys and separators, some of them plain, and names that are and aren't there."""
+    policies = itertools.cycle(POLICIES)
+    for value in VALUES:
+        yield Question("set_existing", DEFAULT, BASICS, None, "k", value, "k = v \n")
+        yield Question("add", DEFAULT, BASICS._replace(policy=next(policies)), None, "k", value, "j=w")
+    yield from itertools.chain(backslashes(), lone_lines(), comments_and_notes())
     for value in RAW_VALUES:
-        yield Question("set", ESCAPES_OFF._replace(multiline=True, quote=False), raw, None, "path", value, "path=1 \n  2\n\n")
-        yield Question("set", DEFAULT, raw, None, "path", value, "path=1\n")
+        yield Question("set", ESCAPES_OFF._replace(multiline=True, quote=False), BARE, None, "path", value, "path=1 \n  2\n\n")
+        yield Question("set", DEFAULT, BARE, None, "path", value, "path=1\n")
         yield Question("set", ESCAPES_OFF, BASICS, None, "path", value, "path=1\n")
     for key in KEYS:
         yield Question("add", DEFAULT, BASICS, None, key, "v", "j=w")

@@ -17,11 +17,10 @@ import collections
 import itertools
 import pathlib
 import random
-import shlex
-import subprocess
 import sys
 
 import cases
+from asking import answers, digits, name_word, option_words, undone
 from model import POLICIES, Option, Question, Writing
 from pieces_model import whole_answer as answer
 
@@ -43,14 +42,7 @@ UNPLAIN_SEPARATORS = ["", " =="]
 
 def line_of(question):
     """The question as `ini_replay edits` reads it."""
-
-    def digits(text):
-        return text.encode().hex()
-
-    option, writing = question.option, question.writing
-    line_end = "LF" if writing.line_end == "\n" else "CRLF"
-    name = "G" if question.name is None else "S" + digits(question.name)
-    words = [question.call, option.flags(), writing.policy, line_end, digits(writing.separator), name]
+    words = [question.call, *option_words(question.option, question.writing), name_word(question.name)]
     return " ".join(words + [digits(text) for text in (question.key, question.value, question.text)])
 
 
@@ -103,19 +95,9 @@ def random_question(chance):
     return Question(call, option, writing, name, key, value, text)
 
 
-def answers(program, questions):
-    """The lines with which the program answers."""
-    lines = "".join(line_of(question) + "\n" for question in questions)
-    found = subprocess.run(shlex.split(program), input=lines, stdout=subprocess.PIPE, text=True, check=True).stdout
-    found = found.splitlines()
-    if len(found) != len(questions):
-        sys.exit(f"{program}: {len(questions)} lines in, {len(found)} out")
-    return found
-
-
 def differing(program, questions):
     """The questions that the two answer differently, each with both answers."""
-    for question, theirs in zip(questions, answers(program, questions)):
+    for question, theirs in zip(questions, answers(program, list(map(line_of, questions)))):
         ours = answer(question)
         if ours != theirs:
             yield question, theirs, ours
@@ -141,7 +123,7 @@ def smallest(program, difference):
 
 
 def shown(line):
-    return repr(bytes.fromhex(line[4:]).decode()) if line.startswith("new ") else line
+    return repr(undone(line[4:])) if line.startswith("new ") else line
 
 
 def kind(line):

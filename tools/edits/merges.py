@@ -10,14 +10,11 @@ answered with the model; `random` does both, where PROGRAM is the command `ini_r
 a difference. The model knows what each look-up is to answer, and makes the edits of pieces_model.py, each on the whole text.
 """
 import collections
-import random
-import shlex
-import subprocess
-import sys
 
-from compare import SEPARATORS, UNPLAIN_SEPARATORS, VALUES, random_option
-from model import POLICIES, Option, Refused, Writing
-from pieces_compare import LINES, digits, name_word
+from asking import digits, name_word, option_words, options_of, run, undone
+from compare import VALUES, random_option
+from model import Refused
+from pieces_compare import LINES, random_writing
 from pieces_model import Edit, Page, edited
 
 MORE = ["k = v\n", "k=2\n", "j=1\n", "j = x\n", "[a]\n", "[b]\n", "[a]\nk=1\nj=2\n", "[b]\nk=v\n", "k=\n", "i=0\n", "; c\n", "\n"]
@@ -68,8 +65,7 @@ def answer(option, writing, side, texts):
 
 
 def line_of(option, writing, side, texts):
-    end = "LF" if writing.line_end == "\n" else "CRLF"
-    return " ".join([option.flags(), writing.policy, end, digits(writing.separator), side] + [digits(text) for text in texts])
+    return " ".join(option_words(option, writing) + [side] + [digits(text) for text in texts])
 
 
 def changed(chance, lines, more):
@@ -113,22 +109,13 @@ def random_question(chance):
         texts = ["".join(base), "".join(changed(chance, base, more)), "".join(changed(chance, base, more))]
         if not all(is_read(text, option) for text in texts) or empties_early(texts, option):
             continue
-        separator = chance.choice(UNPLAIN_SEPARATORS if chance.random() < 0.03 else SEPARATORS)
-        writing = Writing(chance.choice(POLICIES), chance.choice(["\n", "\r\n"]), separator)
-        return option, writing, chance.choice(["ours", "theirs"]), texts
-
-
-def questions(number, seed):
-    chance = random.Random(seed)
-    return [random_question(chance) for _ in range(number)]
+        return option, random_writing(chance), chance.choice(["ours", "theirs"]), texts
 
 
 def parsed(line):
     """A question from its line."""
     flags, policy, end, separator, side, *texts = line.split(" ")
-    undone = lambda word: bytes.fromhex(word).decode()
-    writing = Writing(policy, "\n" if end == "LF" else "\r\n", undone(separator))
-    return Option(*map(int, flags)), writing, side, [undone(text) for text in texts]
+    return *options_of(flags, policy, end, separator), side, [undone(text) for text in texts]
 
 
 def judged(asked, answers):
@@ -147,26 +134,5 @@ def judged(asked, answers):
     return not differences
 
 
-def main():
-    match sys.argv[1:]:
-        case ["ask", file, number, *seed] if len(seed) < 2:
-            with open(file, "w") as out:
-                out.writelines(line_of(*question) + "\n" for question in questions(int(number), seed[0] if seed else "1"))
-        case ["judge", file, answers]:
-            with open(file) as asked, open(answers) as found:
-                lines = [line for line in found.read().splitlines() if line]
-                asked = [parsed(line) for line in asked.read().splitlines()]
-                if len(asked) != len(lines):
-                    sys.exit(f"{len(asked)} questions, {len(lines)} answers")
-                sys.exit(not judged(asked, lines))
-        case ["random", program, number, *seed] if len(seed) < 2:
-            asked = questions(int(number), seed[0] if seed else "1")
-            lines = "".join(line_of(*question) + "\n" for question in asked)
-            run = subprocess.run(shlex.split(program), input=lines, stdout=subprocess.PIPE, text=True, check=True)
-            sys.exit(not judged(asked, run.stdout.splitlines()))
-        case _:
-            sys.exit(__doc__)
-
-
 if __name__ == "__main__":
-    main()
+    run(__doc__, random_question, line_of, parsed, judged)

@@ -10,13 +10,10 @@ compares what the program answered with the model, which edits the program's las
 PROGRAM is the command `ini_replay pieces`. The status is 1 where there is a difference.
 """
 import collections
-import random
-import shlex
-import subprocess
-import sys
 
+from asking import digits, name_word, option_words, options_of, run, undone
 from compare import KEYS, NAMES, PIECES, SEPARATORS, UNPLAIN_SEPARATORS, VALUES, random_option
-from model import POLICIES, Option, Refused, Writing
+from model import POLICIES, Refused, Writing
 from pieces_model import Edit, Page, answer
 
 CALLS = ["set", "set", "set_first", "set_existing", "set_nth", "add", "add", "delete", "delete_nth", "delete_all", "rename_key"]
@@ -36,23 +33,13 @@ ALONE += ["k ; n\n", "j\t#n", " k ;n\r\n"]
 COMMENTS = ["# c\n", "; a\n# b\n", "", "#", "# c\r\n", "#a\r  b\n", "no", "# a\nb", " # a", "\n", "# a\n\n"]
 
 
-def digits(text):
-    return text.encode().hex()
-
-
-def name_word(name):
-    return "G" if name is None else "S" + digits(name)
-
-
 def word_of(edit):
     texts = [digits(text) for text in (edit.key, edit.other, edit.value)]
     return ",".join([edit.call, name_word(edit.name)] + texts + [str(edit.number)])
 
 
 def line_of(option, writing, text, edits):
-    end = "LF" if writing.line_end == "\n" else "CRLF"
-    words = [option.flags(), writing.policy, end, digits(writing.separator), digits(text)]
-    return " ".join(words + [word_of(edit) for edit in edits])
+    return " ".join(option_words(option, writing) + [digits(text)] + [word_of(edit) for edit in edits])
 
 
 def random_text(chance, option):
@@ -89,6 +76,11 @@ def random_edit(chance, page, in_row):
     return Edit(call, name, key, other, value, chance.randrange(3))
 
 
+def random_writing(chance):
+    separator = chance.choice(UNPLAIN_SEPARATORS if chance.random() < 0.03 else SEPARATORS)
+    return Writing(chance.choice(POLICIES), chance.choice(["\n", "\r\n"]), separator)
+
+
 def random_question(chance):
     """A text that the options read, and one edit, several, or a hundred in a row."""
     while True:
@@ -98,32 +90,24 @@ def random_question(chance):
             page = Page(text, option)
         except Refused:
             continue
-        separator = chance.choice(UNPLAIN_SEPARATORS if chance.random() < 0.03 else SEPARATORS)
-        writing = Writing(chance.choice(POLICIES), chance.choice(["\n", "\r\n"]), separator)
+        writing = random_writing(chance)
         number = 100 if chance.random() < 0.01 else chance.choice([1, 1, 1, 6])
         return option, writing, text, [random_edit(chance, page, number > 1) for _ in range(number)]
-
-
-def questions(number, seed):
-    chance = random.Random(seed)
-    return [random_question(chance) for _ in range(number)]
 
 
 def parsed(line):
     """A question from its line."""
     flags, policy, end, separator, text, *edits = line.split(" ")
-    undone = lambda word: bytes.fromhex(word).decode()
-    writing = Writing(policy, "\n" if end == "LF" else "\r\n", undone(separator))
     made = []
     for edit in edits:
         call, name, key, other, value, number = edit.split(",")
         made.append(Edit(call, None if name == "G" else undone(name[1:]), undone(key), undone(other), undone(value), int(number)))
-    return Option(*map(int, flags)), writing, undone(text), made
+    return *options_of(flags, policy, end, separator), undone(text), made
 
 
 def shown(word):
     kind, _, hexed = word.partition(":")
-    return f"{kind} {bytes.fromhex(hexed).decode()!r}" if kind in ("new", "differs", "is") else word
+    return f"{kind} {undone(hexed)!r}" if kind in ("new", "differs", "is") else word
 
 
 def judged(asked, answers):
@@ -138,7 +122,7 @@ def judged(asked, answers):
                 differences.append((len(text), option, writing, text, edit, theirs, ours))
                 break
             if theirs.startswith("new:"):
-                text = bytes.fromhex(theirs[4:]).decode()
+                text = undone(theirs[4:])
     for words, count in sorted(counted.items()):
         print(f"{words}: {count:,}")
     seen = collections.Counter()
@@ -150,26 +134,5 @@ def judged(asked, answers):
     return not differences
 
 
-def main():
-    match sys.argv[1:]:
-        case ["ask", file, number, *seed] if len(seed) < 2:
-            with open(file, "w") as out:
-                out.writelines(line_of(*question) + "\n" for question in questions(int(number), seed[0] if seed else "1"))
-        case ["judge", file, answers]:
-            with open(file) as asked, open(answers) as found:
-                lines = [line for line in found.read().splitlines() if line]
-                asked = [parsed(line) for line in asked.read().splitlines()]
-                if len(asked) != len(lines):
-                    sys.exit(f"{len(asked)} questions, {len(lines)} answers")
-                sys.exit(not judged(asked, lines))
-        case ["random", program, number, *seed] if len(seed) < 2:
-            asked = questions(int(number), seed[0] if seed else "1")
-            lines = "".join(line_of(*question) + "\n" for question in asked)
-            run = subprocess.run(shlex.split(program), input=lines, stdout=subprocess.PIPE, text=True, check=True)
-            sys.exit(not judged(asked, run.stdout.splitlines()))
-        case _:
-            sys.exit(__doc__)
-
-
 if __name__ == "__main__":
-    main()
+    run(__doc__, random_question, line_of, parsed, judged)

@@ -43,9 +43,10 @@ def name_of(line):
 
 
 def part(program, head):
-    """The lines of a page below a head."""
+    """The lines of a page below a head, without comments."""
     text = (TOP / "share/man" / f"{program}.1").read_text(encoding="utf-8")
-    return text.split(f".SH {head}\n")[1].split("\n.SH ")[0].splitlines()
+    lines = text.split(f".SH {head}\n")[1].split("\n.SH ")[0].splitlines()
+    return [line for line in lines if not line.startswith('.\\"')]
 
 
 def entries(lines):
@@ -71,8 +72,7 @@ def synopses(program):
         lines = run.splitlines()[2:]
         command = lines[0].split(" ", 1)[1].replace("\\-", "-")
         rest = [re.sub(r"^\.\w+ ", "", line) for line in lines[1:] if "CHOICES" not in line]
-        said = " ".join(rest).replace("\\&...", "..").replace("[ ", "[").replace(" ]", "]")
-        said = re.sub(r"(\w)\.\.", r"\1 ..", said)
+        said = " ".join(rest).replace("\\&", "").replace("[ ", "[").replace(" ]", "]")
         found[command] = f"{command} {said}".strip()
     return found
 

@@ -10,7 +10,8 @@ use Rattle.ini_edit.specs.Sources.{SectionPiece}
 use Rattle.ini_edit.specs.WholeTexts.{RefusesToAddTo, RefusesToSetOf}
 use Rattle.ini_edit.specs.declared.error.EditError.{EditError}
 use Rattle.ini_edit.specs.declared.error.EditError.TheVariants as refusals
-use Rattle.ini_c.specs.TextEdits.{HasUnwritableKey, IsWritableLine}
+use Rattle.ini_c.specs.TextEdits.{HasUnwritableKey}
+use Rattle.ini_edit.specs.Made.{IsWritableLine}
 use Rattle.ini_text.specs.declared.error.Error.TheVariants.{Io, Memory, NoProgress, NotUtf8, Parse}
 use Rattle.ini_text.specs.declared.error.ParseError.{ParseError}
 use Rattle.ini_text.specs.declared.option.ParseOption.{ParseOption}

@@ -1,14 +1,13 @@
 -- What an edit of a text gives, as C gets it.
-use Rattle.std.specs.Prelude.{◌≡◌, ℕ, List, Option, length, chars, false, true, ⊤}
+use Rattle.std.specs.Prelude.{◌≡◌, ℕ, List, Option, length, chars, ⊤}
 use Rattle.std.specs.Str.{IsUtf8}
 use Rattle.ini.specs.Texts.{Text}
-use Rattle.ini_text.specs.Grammar.Strings.{noted_key_ends}
-use Rattle.ini_text.specs.Laws.Plain.{IsPlainKey, IsReadBack, has_bare_note}
 use Rattle.ini_text.specs.declared.error.Error.TheVariants.{Parse}
 use Rattle.ini_text.specs.declared.error.ParseError.{ParseError}
 use Rattle.ini_text.specs.declared.option.ParseOption.{ParseOption}
 use Rattle.ini_text.specs.declared.write.option.WriteOption.{WriteOption}
 use Rattle.ini_text.specs.declared.write.policy.EscapePolicy.{EscapePolicy}
+use Rattle.ini_edit.specs.Made.{IsWritableLine}
 use Rattle.ini_edit.specs.SourceWritten.{HasForm}
 use Rattle.ini_edit.specs.WholeTexts.{IsAddedText, IsSetText, RefusesToAddTo, RefusesToSetOf}
 use Rattle.ini_edit.specs.declared.error.EditError.{EditError}
@@ -22,13 +21,6 @@ use Rattle.ini_c.specs.declared.options.WriteChoice.{WriteChoice}
 -- a text, a section's name and a key are UTF-8
 abbrev pub AreEdit : List ℕ → List ℕ → List ℕ → Type 0
 AreEdit text section key = IsUtf8 text × AreTexts section key
-
--- a key and its value can be written in a line of their own
-pub record IsWritableLine (o : ParseOption) (policy : EscapePolicy) (key value : Text) : Type 0 where
-  pub has_form : HasForm o policy value
-  pub plain_key : IsPlainKey o policy key
-  pub key_no_note : (noted_key_ends o).notes ≡ true → has_bare_note policy key ≡ false
-  pub key_read_back : IsReadBack o policy key
 
 -- a line of the key and the value can't be written, and not for the value
 pub record HasUnwritableKey (o : ParseOption) (policy : EscapePolicy) (key value : Text) : Type 0 where

@@ -8,6 +8,7 @@ ghost use Rattle.ini.specs.Texts.{str_name, text_of};
 ghost use Rattle.ini_text.specs.Laws.Plain.{IsPlainSeparator};
 ghost use Rattle.ini_edit.specs.Edited.{IfEditParse};
 ghost use Rattle.ini_edit.specs.FirstPairs.{LacksPair};
+ghost use Rattle.ini_edit.specs.Made.{IsWritableLine};
 ghost use Rattle.ini_edit.specs.SourceWritten.{HasForm};
 ghost use Rattle.ini_edit.specs.WholeTexts.{IsAddedText, IsDeletedText, IsSetText, RefusesToAddTo};
 ghost use Rattle.ini_edit.specs.WholeTexts.{RefusesToSetOf};
@@ -18,7 +19,6 @@ ghost use Rattle.ini_c.specs.LookUps.{name_if};
 ghost use Rattle.ini_c.specs.Statuses.{absent, broken, is_among, no_memory, no_place, no_room};
 ghost use Rattle.ini_c.specs.Statuses.{not_utf8, ok, unplain_key, unplain_name, unplain_value};
 ghost use Rattle.ini_c.specs.TextEdits.{AreEdit, HasUnwritableKey, IsAddedBy, IsCountOfText, IsSetBy};
-ghost use Rattle.ini_c.specs.TextEdits.{IsWritableLine};
 ghost use Rattle.ini_c.specs.TextEdits.{RefusesToAddBy, RefusesToSetBy};
 
 use crate::copies::{give, pair_of, place_of};

@@ -1,7 +1,8 @@
 -- What an edit makes of a document, where a text has nothing that it is about, and which words of it can't
 -- be written.
-use Rattle.std.specs.Prelude.{Bool, true, false, List, [], ◌∷◌, Some}
-use Rattle.ini_text.specs.Laws.Plain.{IsPlainKey, IsPlainName, IsReadBack}
+use Rattle.std.specs.Prelude.{◌≡◌, Bool, true, false, List, [], ◌∷◌, Some}
+use Rattle.ini_text.specs.Grammar.Strings.{noted_key_ends}
+use Rattle.ini_text.specs.Laws.Plain.{IsPlainKey, IsPlainName, IsReadBack, has_bare_note}
 use Rattle.ini_text.specs.declared.option.ParseOption.{ParseOption}
 use Rattle.ini_text.specs.declared.write.policy.EscapePolicy.{EscapePolicy}
 use Rattle.ini.specs.Documents.{Document, section_removed}
@@ -44,6 +45,7 @@ HasNothing o (RenameSection old new) T = LacksSection o T (Some old)
 pub record IsWritableLine (o : ParseOption) (policy : EscapePolicy) (key value : Text) : Type 0 where
   pub has_form : HasForm o policy value
   pub plain_key : IsPlainKey o policy key
+  pub key_no_note : (noted_key_ends o).notes ≡ true → has_bare_note policy key ≡ false
   pub key_read_back : IsReadBack o policy key
 
 -- The edit has a word that can't be written, whatever the text is. (What else setting and adding are refused

@@ -138,7 +138,7 @@ impl<'a> Parser<'a> {
             &mut self.rests,
             self.text,
             self.rest,
-            self.option,
+            &self.option,
         ) {
             Ok((item, rest)) => {
                 self.rest = rest;
@@ -170,10 +170,10 @@ fn find_owned<'a>(
     rests: &mut Rests<'a>,
     text: &'a str,
     start: &'a str,
-    read: ParseOption,
+    read: &ParseOption,
 ) -> Result<(Option<Item>, &'a str), Stop<'a>>
     requires { IsRest (chars text.now) (chars start.now) }
-    ensures item { FindsItem read (chars text.now) (chars start.now) result }
+    ensures item { FindsItem read.now (chars text.now) (chars start.now) result }
     ensures ended { chars start.now ≡ [] → IsOkAnd result (λ p. p.0 ≡ None) }
 {
     let (found, rest) = find_item(alloc, scratch, rests, text, start, read)?;
@@ -192,10 +192,10 @@ fn find_item<'a>(
     rests: &mut Rests<'a>,
     text: &'a str,
     start: &'a str,
-    read: ParseOption,
+    read: &ParseOption,
 ) -> Result<(Option<BorrowedItem<'a>>, &'a str), Stop<'a>>
     requires { IsRest (chars text.now) (chars start.now) }
-    ensures item { FindsBorrowed read (chars text.now) (chars start.now) result }
+    ensures item { FindsBorrowed read.now (chars text.now) (chars start.now) result }
     ensures ended { chars start.now ≡ [] → IsOkAnd result (λ p. p.0 ≡ None) }
 {
     let mut rest = start;

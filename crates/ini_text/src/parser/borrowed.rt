@@ -34,7 +34,7 @@ impl<'a> Parser<'a> {
             &mut self.rests,
             self.text,
             self.rest,
-            self.option,
+            &self.option,
         ) {
             Ok((item, rest)) => {
                 self.rest = rest;

@@ -31,12 +31,12 @@ pub(crate) fn read_element<'a>(
     text: &'a str,
     c: char,
     after: &'a str,
-    read: ParseOption,
+    read: &ParseOption,
 ) -> Result<(Option<BorrowedItem<'a>>, &'a str), Stop<'a>>
     requires { chars text.now ≡ c ∷ chars after.now }
-    ensures gives { Gives given result (element read (chars front.now) (chars text.now)) }
+    ensures gives { Gives given result (element read.now (chars front.now) (chars text.now)) }
     ensures rests { places ≡ true
-        → IfOk result (λ p. HasRests read (chars text.now) rests.new p.0 (chars p.1.now)) }
+        → IfOk result (λ p. HasRests read.now (chars text.now) rests.new p.0 (chars p.1.now)) }
 {
     if Class::Blank.contains(c) {
         if starts_line(front) {
@@ -61,9 +61,9 @@ pub(crate) fn read_element<'a>(
 fn read_comment<'a>(
     front: &str,
     after: &'a str,
-    read: ParseOption,
+    read: &ParseOption,
 ) -> Result<(Option<BorrowedItem<'a>>, &'a str), Stop<'a>>
-    ensures gives { Gives given result (after_mark read (chars front.now) (chars after.now)) }
+    ensures gives { Gives given result (after_mark read.now (chars front.now) (chars after.now)) }
     ensures nothing { IfOk result (λ p. IsHeader p.0) }
 {
     if is_column_one(front) {

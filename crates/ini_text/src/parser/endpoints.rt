@@ -27,8 +27,8 @@ pub(crate) enum Endpoints {
 }
 
 impl Endpoints {
-    pub(crate) fn contains(self, c: char, read: ParseOption) -> bool
-        ensures { result ≡ is_endpoint (ends_of read self) c }
+    pub(crate) fn contains(self, c: char, read: &ParseOption) -> bool
+        ensures { result ≡ is_endpoint (ends_of read.now self) c }
     {
         match self {
             Endpoints::Name => c == ']',
@@ -43,9 +43,9 @@ impl Endpoints {
     /// The bytes at which a run of characters ends: a backslash, and the characters at which the string
     /// ends. `None` where they are those of `KEY_MARKS`.
     #[tactic(auto, using(crate::proofs::StringLemmas::LaneLemmas::no_marks, crate::proofs::StringLemmas::LaneLemmas::no_key_marks))]
-    pub(crate) fn marks(self, read: ParseOption) -> Option<Three>
-        ensures { MatchOption result ((c : ℕ) → is_raw (ends_of read self) c ≡ not (is_key_mark c))
-            (λ three. (c : ℕ) → is_raw (ends_of read self) c ≡ not (is_one_of three.0 three.1 three.2 c)) }
+    pub(crate) fn marks(self, read: &ParseOption) -> Option<Three>
+        ensures { MatchOption result ((c : ℕ) → is_raw (ends_of read.now self) c ≡ not (is_key_mark c))
+            (λ three. (c : ℕ) → is_raw (ends_of read.now self) c ≡ not (is_one_of three.0 three.1 three.2 c)) }
     {
         match self {
             Endpoints::Name => Some(Three(b'\\', b']', b']')),
@@ -58,8 +58,8 @@ impl Endpoints {
         }
     }
 
-    pub(crate) fn contains_text_end(self, read: ParseOption) -> bool
-        ensures { result ≡ (ends_of read self).text }
+    pub(crate) fn contains_text_end(self, read: &ParseOption) -> bool
+        ensures { result ≡ (ends_of read.now self).text }
     {
         match self {
             Endpoints::Plain => true,
@@ -69,8 +69,8 @@ impl Endpoints {
     }
 
     /// Whether the string ends before notes too.
-    pub(crate) fn contains_notes(self, read: ParseOption) -> bool
-        ensures { result ≡ (ends_of read self).notes }
+    pub(crate) fn contains_notes(self, read: &ParseOption) -> bool
+        ensures { result ≡ (ends_of read.now self).notes }
     {
         match self {
             Endpoints::Plain | Endpoints::BracketedName => read.enabled_inline_comment,
@@ -93,14 +93,15 @@ impl Endpoints {
 }
 
 // Whether a key ends with its line.
-fn ends_with_line(read: ParseOption) -> bool
-    ensures { result ≡ ends_with_line read.line_without_separator }
+fn ends_with_line(read: &ParseOption) -> bool
+    ensures { result ≡ ends_with_line read.now.line_without_separator }
 {
     !matches!(read.line_without_separator, LoneLine::RunsOn)
 }
 
-fn run_len(bytes: &[u8], read: ParseOption, ends: Endpoints) -> usize
-    ensures len { result ≡ prefix_len (is_raw (ends_of read ends)) bytes.now }
+#[inline(always)]
+fn run_len(bytes: &[u8], read: &ParseOption, ends: Endpoints) -> usize
+    ensures len { result ≡ prefix_len (is_raw (ends_of read.now ends)) bytes.now }
     ensures within { result ≤ length bytes.now }
 {
     match ends.marks(read) {
@@ -109,24 +110,40 @@ fn run_len(bytes: &[u8], read: ParseOption, ends: Endpoints) -> usize
     }
 }
 
-/// The characters at the front of a text that are neither a backslash nor an endpoint, and what follows
-/// them: the run, where notes are off.
-pub(crate) fn split_run(text: &str, read: ParseOption, ends: Endpoints) -> (&str, &str)
+/// The run at the front of a text, and what follows it: characters that are neither a backslash nor an
+/// endpoint, up to a note where the string ends before one.
+#[inline(always)]
+pub(crate) fn split_run<'a>(
+    text: &'a str,
+    read: &ParseOption,
+    ends: Endpoints,
+) -> (&'a str, &'a str)
     ensures parts { chars text.now ≡ chars result.0.now ++ chars result.1.now }
-    ensures run { read.enabled_inline_comment ≡ false
-        → is_run (ends_of read ends) (chars result.0.now) ≡ true }
-    ensures next { EndsRun (ends_of read ends) (chars result.0.now) (chars result.1.now) }
+    ensures run { is_run (ends_of read.now ends) (chars result.0.now) ≡ true }
+    ensures next { EndsRun (ends_of read.now ends) (chars result.0.now) (chars result.1.now) }
 {
-    text.split_at(run_len(text.as_bytes(), read, ends))
+    let len = run_len(text.as_bytes(), read, ends);
+    // Where notes are off, they cost this test alone.
+    if read.enabled_inline_comment {
+        return split_noted_run(text, len, read, ends);
+    }
+    text.split_at(len)
 }
 
-/// The same, up to a note where the string ends before one: the run, whether notes are on or off.
-pub(crate) fn split_noted_run(text: &str, read: ParseOption, ends: Endpoints) -> (&str, &str)
+/// The same, where so many bytes stand before a backslash or an endpoint.
+#[inline(never)]
+fn split_noted_run<'a>(
+    text: &'a str,
+    len: usize,
+    read: &ParseOption,
+    ends: Endpoints,
+) -> (&'a str, &'a str)
+    requires { len ≡ prefix_len (is_raw (ends_of read.now ends)) text.now }
     ensures parts { chars text.now ≡ chars result.0.now ++ chars result.1.now }
-    ensures run { is_run (ends_of read ends) (chars result.0.now) ≡ true }
-    ensures next { EndsRun (ends_of read ends) (chars result.0.now) (chars result.1.now) }
+    ensures run { is_run (ends_of read.now ends) (chars result.0.now) ≡ true }
+    ensures next { EndsRun (ends_of read.now ends) (chars result.0.now) (chars result.1.now) }
 {
-    let (run, rest) = text.split_at(run_len(text.as_bytes(), read, ends));
+    let (run, rest) = text.split_at(len);
     if !ends.contains_notes(read) {
         return (run, rest);
     }

@@ -26,9 +26,9 @@ pub(crate) fn read_header<'a>(
     alloc: Global,
     scratch: &mut String,
     text: &'a str,
-    read: ParseOption,
+    read: &ParseOption,
 ) -> Result<(Option<BorrowedItem<'a>>, &'a str), Stop<'a>>
-    ensures gives { Gives given result (after_bracket read (chars text.now)) }
+    ensures gives { Gives given result (after_bracket read.now (chars text.now)) }
     ensures header { IfOk result (λ p. IsHeader p.0) }
 {
     if read.enabled_brackets_in_section_names {
@@ -45,11 +45,11 @@ fn read_bracketed_header<'a>(
     alloc: Global,
     scratch: &mut String,
     text: &'a str,
-    read: ParseOption,
+    read: &ParseOption,
 ) -> Result<(Option<BorrowedItem<'a>>, &'a str), Stop<'a>>
     ensures header { IfOk result (λ p. IsHeader p.0) }
     ensures gives { Gives given result
-        (bracketed_header (string (backslash_of read) (noted read bracketed_name_ends) (chars text.now))) }
+        (bracketed_header (string (backslash_of read.now) (noted read.now bracketed_name_ends) (chars text.now))) }
 {
     if let Some((run, rest)) = split_raw(text, read, Endpoints::BracketedName) {
         let name = name_before(run, rest)?;

@@ -16,8 +16,8 @@ use std::alloc::Global;
 use std::borrow::CowStr;
 
 /// Where the quoted part that begins here ends, and what follows its mark.
-fn split_quote_mark(text: &str, read: ParseOption) -> Option<(Endpoints, &str)>
-    ensures { quote_at read (chars text.now) ≡ option_map (λ p. (ends_of read p.0, chars p.1.now)) result }
+fn split_quote_mark<'a>(text: &'a str, read: &ParseOption) -> Option<(Endpoints, &'a str)>
+    ensures { quote_at read.now (chars text.now) ≡ option_map (λ p. (ends_of read.now p.0, chars p.1.now)) result }
 {
     let (c, after) = split_first(text)?;
     if !read.enabled_quote {
@@ -36,9 +36,9 @@ pub(crate) fn read_first_line<'a>(
     alloc: Global,
     scratch: &mut String,
     text: &'a str,
-    read: ParseOption,
+    read: &ParseOption,
 ) -> Result<(CowStr<'a>, &'a str), Stop<'a>>
-    ensures { Gives cow_text result (line_text read true (chars text.now)) }
+    ensures { Gives cow_text result (line_text read.now true (chars text.now)) }
 {
     match split_quote_mark(text, read) {
         None => read_trimmed(alloc, scratch, text, read, Endpoints::Plain, true),
@@ -58,11 +58,11 @@ pub(crate) fn read_line<'a>(
     alloc: Global,
     out: &mut String,
     text: &'a str,
-    read: ParseOption,
+    read: &ParseOption,
     is_first: bool,
 ) -> Result<&'a str, Stop<'a>>
     ensures { Appends (string_text out.new) result
-        (prepend (string_text out.old) (line_text read is_first (chars text.now))) }
+        (prepend (string_text out.old) (line_text read.now is_first (chars text.now))) }
 {
     let mut rest = text;
     let mut is_quoted = false;

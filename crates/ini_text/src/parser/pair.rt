@@ -36,12 +36,12 @@ pub(crate) fn read_unindented<'a>(
     rests: &mut Rests<'a>,
     places: bool,
     text: &'a str,
-    read: ParseOption,
+    read: &ParseOption,
 ) -> Result<(Option<BorrowedItem<'a>>, &'a str), Stop<'a>>
     requires { skipped is_blank (chars text.now) ≡ chars text.now }
-    ensures gives { Gives given result (unindented_pair read (chars text.now)) }
+    ensures gives { Gives given result (unindented_pair read.now (chars text.now)) }
     ensures rests { places ≡ true
-        → IfOk result (λ p. HasRests read (chars text.now) rests.new p.0 (chars p.1.now)) }
+        → IfOk result (λ p. HasRests read.now (chars text.now) rests.new p.0 (chars p.1.now)) }
 {
     let both = !read.enabled_preserve_key_leading_whitespace;
     let ends = Endpoints::Key;
@@ -57,12 +57,12 @@ pub(crate) fn read_indented<'a>(
     rests: &mut Rests<'a>,
     places: bool,
     text: &'a str,
-    read: ParseOption,
+    read: &ParseOption,
 ) -> Result<(Option<BorrowedItem<'a>>, &'a str), Stop<'a>>
     ensures rests { places ≡ true
-        → IfOk result (λ p. HasRests read (chars text.now) rests.new p.0 (chars p.1.now)) }
+        → IfOk result (λ p. HasRests read.now (chars text.now) rests.new p.0 (chars p.1.now)) }
     ensures gives { Gives given result
-        (after_blanks read (run_of is_blank (chars text.now)) (skipped is_blank (chars text.now))) }
+        (after_blanks read.now (run_of is_blank (chars text.now)) (skipped is_blank (chars text.now))) }
 {
     let start = skip(text, Class::Blank);
     let Some((c, after)) = split_first(start) else {
@@ -90,10 +90,10 @@ fn read_indented_key<'a>(
     scratch: &mut String,
     blanks: &str,
     text: &'a str,
-    read: ParseOption,
+    read: &ParseOption,
 ) -> Result<(CowStr<'a>, &'a str), Stop<'a>>
-    ensures { Gives cow_text result (trimmed_key read (prepend (kept_blanks read (chars blanks.now))
-        (key_string read (chars text.now)))) }
+    ensures { Gives cow_text result (trimmed_key read.now (prepend (kept_blanks read.now (chars blanks.now))
+        (key_string read.now (chars text.now)))) }
 {
     let ends = Endpoints::Key;
     if !read.enabled_preserve_key_leading_whitespace {
@@ -137,11 +137,11 @@ fn read_pair<'a>(
     places: bool,
     key: CowStr<'a>,
     rest: &'a str,
-    read: ParseOption,
+    read: &ParseOption,
 ) -> Result<(Option<BorrowedItem<'a>>, &'a str), Stop<'a>>
-    ensures gives { Gives given result (after_key read (cow_text key.entry) (chars rest.now)) }
+    ensures gives { Gives given result (after_key read.now (cow_text key.entry) (chars rest.now)) }
     ensures rests { places ≡ true
-        → IfOk result (λ p. HasValueRests read (chars rest.now) rests.new p.0 (chars p.1.now)) }
+        → IfOk result (λ p. HasValueRests read.now (chars rest.now) rests.new p.0 (chars p.1.now)) }
 {
     let Some((c, after)) = split_first(rest) else {
         rests.keep_key(places, rest);

@@ -102,7 +102,7 @@ impl<'a> Parser<'a> {
             &mut self.rests,
             self.text,
             self.rest,
-            self.option,
+            &self.option,
         ) {
             Ok((element, rest)) => {
                 self.rest = rest;
@@ -128,10 +128,10 @@ fn find_element<'a>(
     rests: &mut Rests<'a>,
     text: &'a str,
     start: &'a str,
-    read: ParseOption,
+    read: &ParseOption,
 ) -> Result<(Option<PlacedElement<'a>>, &'a str), Stop<'a>>
     requires { IsRest (chars text.now) (chars start.now) }
-    ensures element { FindsElement read (chars text.now) (chars start.now) result }
+    ensures element { FindsElement read.now (chars text.now) (chars start.now) result }
     ensures ended { chars start.now ≡ [] → IsOkAnd result (λ p. p.0 ≡ None) }
 {
     let Some((c, after)) = split_first(start) else {
@@ -158,11 +158,11 @@ fn place_pair<'a>(
     rests: Rests<'a>,
     value: &str,
     end: &'a str,
-    read: ParseOption,
+    read: &ParseOption,
 ) -> PairPlaces<'a>
-    requires pair { BeginsPair read (chars text.now) (chars end.now) }
-    requires rests { HasRestsOf read (chars text.now) rests (chars value.now) (chars end.now) }
-    ensures { PlacesPair read (chars text.now) (chars end.now) result }
+    requires pair { BeginsPair read.now (chars text.now) (chars end.now) }
+    requires rests { HasRestsOf read.now (chars text.now) rests (chars value.now) (chars end.now) }
+    ensures { PlacesPair read.now (chars text.now) (chars end.now) result }
 {
     let _ = value;
     let after_key = rests.after_key;
@@ -172,7 +172,7 @@ fn place_pair<'a>(
     match split_first(after_key) {
         Some((separator, after)) if is_separator(separator) => {
             let (raw_value, space_after) = split_space_after(front_before(start, tail), read);
-            let after_note = past_note(tail, read);
+            let after_note = past_note(tail, *read);
             PairPlaces {
                 key,
                 separator: Some(separator),
@@ -197,16 +197,16 @@ fn place_pair<'a>(
 
 /// A value's own lines without the white space at their end, and that; all of them where a backslash stands
 /// before it that takes it along.
-fn split_space_after(lines: &str, read: ParseOption) -> (&str, &str)
+fn split_space_after<'a>(lines: &'a str, read: &ParseOption) -> (&'a str, &'a str)
     ensures whole { chars lines.now ≡ chars result.0.now ++ chars result.1.now }
-    ensures space_after { SpaceAfter (backslash_of read) (chars result.0.now) (chars result.1.now) }
+    ensures space_after { SpaceAfter (backslash_of read.now) (chars result.0.now) (chars result.1.now) }
 {
     lines.split_at(without_space_after(lines, read).len())
 }
 
 /// What stands before the white space at the end of a value's own lines.
-fn without_space_after(lines: &str, read: ParseOption) -> &str
-    ensures { IsBeforeSpace (backslash_of read) (chars lines.now) (chars result.now) }
+fn without_space_after<'a>(lines: &'a str, read: &ParseOption) -> &'a str
+    ensures { IsBeforeSpace (backslash_of read.now) (chars lines.now) (chars result.now) }
 {
     let mut raw_value = lines;
     'white: while let Some((before, c)) = split_last(raw_value) {

@@ -1,10 +1,12 @@
 //! Short pieces of a string: a run of fewer bytes than are tested together, and an escape after it. This
 //! file knows escapes, and nothing of lines, keys or names.
-ghost use Rattle.std.specs.Prelude.{◌≡◌, ◌∷◌, ◌≤◌, [], false, true, chars, drop, length, take, IfOk, IfSome};
+ghost use Rattle.std.specs.Prelude.{◌≡◌, ◌∷◌, ◌≤◌, [], ℕ, false, not, true, chars, drop, length, take, IfOk, IfSome};
 ghost use Rattle.std.specs.Str.{IsCharBoundary};
 ghost use Rattle.ini_text.specs.Buffered.{buffered};
 ghost use Rattle.ini_text.specs.Inside.Endpoints.{ends_of};
+ghost use Rattle.ini_text.specs.Inside.Lanes.{is_one_of};
 ghost use Rattle.ini_text.specs.Inside.Reading.{found, prepend};
+ghost use Rattle.ini_text.specs.Inside.Scans.{is_raw};
 ghost use Rattle.ini_text.specs.Inside.ShortPieces.{IsEscape, IsShort, Sees};
 ghost use Rattle.ini_text.specs.Options.Backslashes.{Escape};
 ghost use Rattle.ini_text.specs.Options.ReadOptions.{backslash_of};
@@ -14,7 +16,7 @@ ghost use Rattle.ini_text.specs.declared.lanes.TheConstants.{LANES};
 ghost use Rattle.ini_text.specs.declared.parser.short.TheConstants.{BLOCK_LENGTH, CODE, LONGEST_ESCAPE};
 
 use crate::buffer::{Buffer, LONGEST_CHARACTER, place_char};
-use crate::lanes::{LANES, marks_ahead, place_lanes};
+use crate::lanes::{LANES, Three, marks_ahead, place_lanes};
 use crate::option::ParseOption;
 use crate::parser::endpoints::Endpoints;
 use crate::parser::tables::{digit, letter_value};
@@ -37,12 +39,12 @@ const CODE: usize = 4;
 pub(crate) fn read_short<'a>(
     out: &mut String,
     text: &'a str,
-    read: ParseOption,
+    read: &ParseOption,
     ends: Endpoints,
 ) -> Result<&'a str, AllocError>
     ensures read { IfOk result (λ rest.
-        prepend (string_text out.old) (string (backslash_of read) (ends_of read ends) (chars text.now))
-        ≡ prepend (string_text out.new) (string (backslash_of read) (ends_of read ends) (chars rest.now))) }
+        prepend (string_text out.old) (string (backslash_of read.now) (ends_of read.now ends) (chars text.now))
+        ≡ prepend (string_text out.new) (string (backslash_of read.now) (ends_of read.now ends) (chars rest.now))) }
     ensures shorter { IfOk result (λ rest. length (chars rest.now) ≤ length (chars text.now)) }
 {
     if !read.enabled_escape || ends.contains_notes(read) {
@@ -67,18 +69,23 @@ pub(crate) fn read_short<'a>(
 impl Buffer<BLOCK_LENGTH> {
     // Puts in the values of some short pieces, and gives what follows the pieces.
     #[inline(always)]
-    fn push_pieces<'a>(&mut self, text: &'a str, read: ParseOption, ends: Endpoints) -> &'a str
+    fn push_pieces<'a>(&mut self, text: &'a str, read: &ParseOption, ends: Endpoints) -> &'a str
         requires empty { buffered self.old ≡ [] }
-        requires no_notes { (ends_of read ends).notes ≡ false }
-        ensures read { string Escape (ends_of read ends) (chars text.now)
-            ≡ prepend (chars (buffered self.new)) (string Escape (ends_of read ends) (chars result.now)) }
+        requires no_notes { (ends_of read.now ends).notes ≡ false }
+        ensures read { string Escape (ends_of read.now ends) (chars text.now)
+            ≡ prepend (chars (buffered self.new)) (string Escape (ends_of read.now ends) (chars result.now)) }
         ensures shorter { length (chars result.now) ≤ length (chars text.now) }
     {
+        let Some(marks) = ends.marks(read) else {
+            return text;
+        };
         let mut len = self.len;
         let mut rest = text;
         let mut known = 0;
         'pieces: while len <= BLOCK_LENGTH - LANES - LONGEST_CHARACTER {
-            let Some((run_length, value, taken, bits)) = split_short(rest, known, read, ends) else {
+            let Some((run_length, value, taken, bits)) = split_short(
+                rest, known, &marks, read, ends,
+            ) else {
                 break 'pieces;
             };
             place_lanes(&mut self.bytes, len, u8x16::from_slice(rest.as_bytes()));
@@ -98,17 +105,21 @@ impl Buffer<BLOCK_LENGTH> {
 fn split_short(
     text: &str,
     known: u64,
-    read: ParseOption,
+    marks: &Three,
+    read: &ParseOption,
     ends: Endpoints,
 ) -> Option<(usize, char, usize, u64)>
-    requires no_notes { (ends_of read ends).notes ≡ false }
-    requires seen { Sees (ends_of read ends) known text.now }
-    ensures piece { IfSome result (λ p. IsShort (ends_of read ends) text.now p.0 p.1 p.2) }
-    ensures seen { IfSome result (λ p. Sees (ends_of read ends) p.3 text.now) }
+    requires marks { (c : ℕ) → is_raw (ends_of read.now ends) c
+        ≡ not (is_one_of marks.now.0 marks.now.1 marks.now.2 c) }
+    requires no_notes { (ends_of read.now ends).notes ≡ false }
+    requires seen { Sees (ends_of read.now ends) known text.now }
+    ensures piece { IfSome result (λ p. IsShort (ends_of read.now ends) text.now p.0 p.1 p.2) }
+    ensures seen { IfSome result (λ p. Sees (ends_of read.now ends) p.3 text.now) }
 {
+    let _ = read;
+    let _ = ends;
     // So many bytes follow that a run and an escape need no test of length.
-    let marks = ends.marks(read)?;
-    let bits = marks_ahead(text.as_bytes(), known, LANES, &marks);
+    let bits = marks_ahead(text.as_bytes(), known, LANES, marks);
     if bits == 0 {
         return None;
     }

@@ -9,7 +9,7 @@ ghost use Rattle.ini_text.specs.Parsing.Items.{string_text};
 
 use crate::error::ParseKind;
 use crate::option::ParseOption;
-use crate::parser::endpoints::{Endpoints, split_noted_run, split_run};
+use crate::parser::endpoints::{Endpoints, split_run};
 use crate::parser::fault::Stop;
 use crate::parser::short::{read_short, split_coded};
 use crate::parser::tables::letter_value;
@@ -18,17 +18,16 @@ use std::alloc::AllocError;
 
 /// A string of one run, and what follows it, from its endpoint on. `None` where it has a backslash, or
 /// isn't ended.
-pub(crate) fn split_raw(text: &str, read: ParseOption, ends: Endpoints) -> Option<(&str, &str)>
+#[inline(always)]
+pub(crate) fn split_raw<'a>(
+    text: &'a str,
+    read: &ParseOption,
+    ends: Endpoints,
+) -> Option<(&'a str, &'a str)>
     ensures { IfSome result
-        (λ p. ReadsRaw (ends_of read ends) (chars text.now) (chars p.0.now) (chars p.1.now)) }
+        (λ p. ReadsRaw (ends_of read.now ends) (chars text.now) (chars p.0.now) (chars p.1.now)) }
 {
-    // Where notes are off, they cost this test alone.
-    let parts = if read.enabled_inline_comment {
-        split_noted_run(text, read, ends)
-    } else {
-        split_run(text, read, ends)
-    };
-    let (run, rest) = parts;
+    let (run, rest) = split_run(text, read, ends);
     if rest.is_empty() {
         if !ends.contains_text_end(read) {
             return None;
@@ -46,20 +45,15 @@ pub(crate) fn split_raw(text: &str, read: ParseOption, ends: Endpoints) -> Optio
 pub(crate) fn read_string<'a>(
     out: &mut String,
     text: &'a str,
-    read: ParseOption,
+    read: &ParseOption,
     ends: Endpoints,
 ) -> Result<&'a str, Stop<'a>>
     ensures { Appends (string_text out.new) result
-        (prepend (string_text out.old) (string (backslash_of read) (ends_of read ends) (chars text.now))) }
+        (prepend (string_text out.old) (string (backslash_of read.now) (ends_of read.now ends) (chars text.now))) }
 {
     let mut rest = text;
     'pieces: loop {
-        let parts = if read.enabled_inline_comment {
-            split_noted_run(rest, read, ends)
-        } else {
-            split_run(rest, read, ends)
-        };
-        let (run, next) = parts;
+        let (run, next) = split_run(rest, read, ends);
         push_text(out, run)?;
         let Some((c, after)) = split_first(next) else {
             if ends.contains_text_end(read) {

@@ -23,12 +23,12 @@ pub(crate) fn read_trimmed<'a>(
     alloc: Global,
     scratch: &mut String,
     text: &'a str,
-    read: ParseOption,
+    read: &ParseOption,
     ends: Endpoints,
     both: bool,
 ) -> Result<(CowStr<'a>, &'a str), Stop<'a>>
     ensures { Gives cow_text result
-        (altered_answer (trimmed_at both) (string (backslash_of read) (ends_of read ends) (chars text.now))) }
+        (altered_answer (trimmed_at both) (string (backslash_of read.now) (ends_of read.now ends) (chars text.now))) }
 {
     // Most strings are one run of the text: they are borrowed.
     if let Some((run, rest)) = split_raw(text, read, ends) {

@@ -22,15 +22,15 @@ impl<'a> Parser<'a> {
         ensures refusal { self.new.refusal ≡ self.old.refusal }
         ensures skipped { SkipsTrivia self.old.option self.old.text self.old.front self.new.front }
     {
-        self.rest = after_trivia(self.text, self.rest, self.option);
+        self.rest = after_trivia(self.text, self.rest, &self.option);
     }
 }
 
 // What follows the trivia that stand before what is left of a text.
-fn after_trivia<'a>(text: &str, start: &'a str, read: ParseOption) -> &'a str
+fn after_trivia<'a>(text: &str, start: &'a str, read: &ParseOption) -> &'a str
     requires { IsRest (chars text.now) (chars start.now) }
     ensures is_rest { IsRest (chars text.now) (chars result.now) }
-    ensures skipped { SkipsTrivia read (chars text.now)
+    ensures skipped { SkipsTrivia read.now (chars text.now)
         (front_of (chars text.now) (chars start.now)) (front_of (chars text.now) (chars result.now)) }
 {
     let mut rest = start;
@@ -41,8 +41,8 @@ fn after_trivia<'a>(text: &str, start: &'a str, read: ParseOption) -> &'a str
 }
 
 // What follows the first of the trivia with which a text begins after a front.
-fn past_first<'a>(front: &str, text: &'a str, read: ParseOption) -> Option<&'a str>
-    ensures { past_first read (chars front.now) (chars text.now)
+fn past_first<'a>(front: &str, text: &'a str, read: &ParseOption) -> Option<&'a str>
+    ensures { past_first read.now (chars front.now) (chars text.now)
         ≡ option_map (λ after. chars after.now) result }
 {
     let (c, after) = split_first(text)?;
@@ -68,8 +68,8 @@ fn past_first<'a>(front: &str, text: &'a str, read: ParseOption) -> Option<&'a s
 }
 
 // What follows the line end with which a text begins, or that a note has with which it begins.
-fn past_line_end<'a>(text: &'a str, read: ParseOption) -> Option<&'a str>
-    ensures { past_line_end read (chars text.now) ≡ option_map (λ after. chars after.now) result }
+fn past_line_end<'a>(text: &'a str, read: &ParseOption) -> Option<&'a str>
+    ensures { past_line_end read.now (chars text.now) ≡ option_map (λ after. chars after.now) result }
 {
     let (c, _) = split_first(text)?;
     let rest = if read.begins_note(c) {

@@ -30,10 +30,10 @@ pub(crate) fn read_value<'a>(
     rests: &mut Rests<'a>,
     places: bool,
     text: &'a str,
-    read: ParseOption,
+    read: &ParseOption,
 ) -> Result<(CowStr<'a>, &'a str), Stop<'a>>
-    ensures gives { Gives cow_text result (value read (chars text.now)) }
-    ensures rests { places ≡ true → HasLines read (chars text.now) rests.new result }
+    ensures gives { Gives cow_text result (value read.now (chars text.now)) }
+    ensures rests { places ≡ true → HasLines read.now (chars text.now) rests.new result }
 {
     if read.enabled_indented_mutiline_value {
         return read_multiline(alloc, scratch, rests, places, text, read);
@@ -41,7 +41,7 @@ pub(crate) fn read_value<'a>(
     let start = skip(text, Class::InlineWhite);
     let (value, tail) = read_first_line(alloc, scratch, start, read)?;
     rests.keep_lines(places, start, tail);
-    Ok((value, past_note(tail, read)))
+    Ok((value, past_note(tail, *read)))
 }
 
 /// The same, where values are multiline.
@@ -51,15 +51,15 @@ fn read_multiline<'a>(
     rests: &mut Rests<'a>,
     places: bool,
     text: &'a str,
-    read: ParseOption,
+    read: &ParseOption,
 ) -> Result<(CowStr<'a>, &'a str), Stop<'a>>
-    requires { read.enabled_indented_mutiline_value ≡ true }
-    ensures gives { Gives cow_text result (value read (chars text.now)) }
-    ensures rests { places ≡ true → HasLines read (chars text.now) rests.new result }
+    requires { read.now.enabled_indented_mutiline_value ≡ true }
+    ensures gives { Gives cow_text result (value read.now (chars text.now)) }
+    ensures rests { places ≡ true → HasLines read.now (chars text.now) rests.new result }
 {
     let start = skip(text, Class::InlineWhite);
     let (first, tail) = read_first_line(alloc, scratch, start, read)?;
-    let end = past_note(tail, read);
+    let end = past_note(tail, *read);
     let Some(next) = after_line_end(end) else {
         let value = trim_line_feeds(alloc, first)?;
         rests.keep_lines(places, start, tail);
@@ -134,16 +134,16 @@ fn read_more<'a>(
     start: &str,
     first_tail: &'a str,
     next: &'a str,
-    read: ParseOption,
+    read: &ParseOption,
 ) -> Result<(&'a str, &'a str), Stop<'a>>
-    requires multiline { read.enabled_indented_mutiline_value ≡ true }
+    requires multiline { read.now.enabled_indented_mutiline_value ≡ true }
     requires starts { chars start.now ≡ skipped is_inline_white (chars text.now) }
-    requires known { TailSoFar read (chars text.now) (chars start.now) (chars first_tail.now)
+    requires known { TailSoFar read.now (chars text.now) (chars start.now) (chars first_tail.now)
         (chars next.now) (string_text out.old) }
     ensures { MatchResult result
-        (λ p. HasTail read (chars text.now) (chars start.now) (chars p.0.now)
+        (λ p. HasTail read.now (chars text.now) (chars start.now) (chars p.0.now)
         (without_outer_line_feeds (string_text out.new)) (chars p.1.now))
-        (StopsBy (value read (chars text.now))) }
+        (StopsBy (value read.now (chars text.now))) }
 {
     let _ = (text, start);
     let mut tail = first_tail;
@@ -167,7 +167,7 @@ fn read_more<'a>(
             if gives_more(out.as_str(), len) {
                 tail = line_tail;
             }
-            let end = past_note(line_tail, read);
+            let end = past_note(line_tail, *read);
             let Some(next) = after_line_end(end) else {
                 return Ok((tail, end));
             };
@@ -180,8 +180,8 @@ fn read_more<'a>(
 }
 
 /// What follows the note of an indented comment that begins with `c`.
-fn comment_end<'a>(c: char, after: &'a str, read: ParseOption) -> Option<&'a str>
-    ensures { comment_end read c (chars after.now) ≡ option_map (λ rest. chars rest.now) result }
+fn comment_end<'a>(c: char, after: &'a str, read: &ParseOption) -> Option<&'a str>
+    ensures { comment_end read.now c (chars after.now) ≡ option_map (λ rest. chars rest.now) result }
 {
     if !read.enabled_indented_comment || !Class::Blank.contains(c) {
         return None;

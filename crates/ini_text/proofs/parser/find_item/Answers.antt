@@ -18,7 +18,7 @@ elements-init c = record {
 pub returns-in_err-given-clause-item : goal.returns-in_err-given-clause-item
 returns-in_err-given-clause-item c =
     let p = err_from_is_err_and c.from_residual.result c.from_residual.ensures.1 in
-    rw (p.1, p.2) (refuses c.args.read (chars c.args.text.now) _ (chars c.elements.rest.now) _
+    rw (p.1, p.2) (refuses c.args.read.now (chars c.args.text.now) _ (chars c.elements.rest.now) _
     c.elements.invariant.within c.elements.invariant.reads c.in-Some.ensures.characters
     c.front_before-front.ensures c.in_err-given.ensures.gives)
 

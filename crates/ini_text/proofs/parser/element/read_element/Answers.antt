@@ -8,5 +8,5 @@ read_unindented-requires c =
 
 pub returns-then-c-eq91-clause-rests : goal.returns-then-c-eq91-clause-rests
 returns-then-c-eq91-clause-rests c =
-    λ _. header_rests c.args.read (chars c.args.text.now) c.args.rests.now c.read_header.result
+    λ _. header_rests c.args.read.now (chars c.args.text.now) c.args.rests.now c.read_header.result
     c.read_header.ensures.header

@@ -9,19 +9,17 @@ use Rattle.ini_text.proofs.parser.endpoints.split_noted_run.Goals as goal
 use Rattle.ini_text.proofs.parser.endpoints.split_noted_run.Goals.{After-split_at, After-split_at-2}
 
 -- the run up to a backslash or an endpoint
-run_at : (c : After-split_at) → RawRun (is_raw (ends_of c.args.read c.args.ends)) c.args.text.now
+run_at : (c : After-split_at) → RawRun (is_raw (ends_of c.args.read.now c.args.ends)) c.args.text.now
     c.split_at.result.0.now c.split_at.result.1.now
 run_at c =
-    raw_run (is_raw (ends_of c.args.read c.args.ends)) c.run_len.result
-    (raw_wide c.args.read c.args.ends) c.utf8.text
-    (c.run_len.ensures.len
-    ∙ ap (prefix_len (is_raw (ends_of c.args.read c.args.ends))) c.as_bytes.ensures.value)
+    raw_run (is_raw (ends_of c.args.read.now c.args.ends)) c.args.len
+    (raw_wide c.args.read.now c.args.ends) c.utf8.text c.requires
     c.split_at.ensures.front c.split_at.ensures.back
 
 pub split_at-requires : goal.split_at-requires
 split_at-requires c =
-    rw (c.run_len.ensures.len, c.as_bytes.ensures.value)
-    (boundary (is_raw (ends_of c.args.read c.args.ends)) c.args.text.now (raw_wide c.args.read c.args.ends))
+    rw c.requires
+    (boundary (is_raw (ends_of c.args.read.now c.args.ends)) c.args.text.now (raw_wide c.args.read.now c.args.ends))
 
 pub returns-then-not-contains_notes-clause-parts : goal.returns-then-not-contains_notes-clause-parts
 returns-then-not-contains_notes-clause-parts c =
@@ -29,7 +27,7 @@ returns-then-not-contains_notes-clause-parts c =
 
 pub returns-then-not-contains_notes-clause-run : goal.returns-then-not-contains_notes-clause-run
 returns-then-not-contains_notes-clause-run c =
-    run_without_notes (ends_of c.args.read c.args.ends) (chars c.split_at.result.0.now)
+    run_without_notes (ends_of c.args.read.now c.args.ends) (chars c.split_at.result.0.now)
     (sym c.contains_notes.ensures ∙ c.if-not-contains_notes.true)
     (run_at (goal.at.returns-then-not-contains_notes-clause-run c).After-split_at).all
 
@@ -40,20 +38,19 @@ returns-then-not-contains_notes-clause-next c =
 -- and up to a note
 pub overflow_sub-run : goal.overflow_sub-run
 overflow_sub-run c =
-    note_within (ends_of c.args.read c.args.ends) c.from_note.result.now
+    note_within (ends_of c.args.read.now c.args.ends) c.from_note.result.now
     (run_at (goal.at.overflow_sub-run c).After-split_at) c.from_note.utf8 c.from_note.ensures
 
 pub split_at-requires-2 : goal.split_at-requires-2
 split_at-requires-2 c =
-    note_boundary (ends_of c.args.read c.args.ends) c.from_note.result.now
+    note_boundary (ends_of c.args.read.now c.args.ends) c.from_note.result.now
     (run_at (goal.at.split_at-requires-2 c).After-split_at) c.from_note.utf8 c.from_note.ensures
 
-cut_at : (c : After-split_at-2) → CutRun (ends_of c.args.read c.args.ends) c.args.text.now
+cut_at : (c : After-split_at-2) → CutRun (ends_of c.args.read.now c.args.ends) c.args.text.now
     c.split_at-2.result.0.now c.split_at-2.result.1.now
 cut_at c =
-    let to = ends_of c.args.read c.args.ends in
-    let run = raw_run (is_raw to) c.run_len.result (raw_wide c.args.read c.args.ends) c.utf8.text
-    (c.run_len.ensures.len ∙ ap (prefix_len (is_raw to)) c.as_bytes.ensures.value)
+    let to = ends_of c.args.read.now c.args.ends in
+    let run = raw_run (is_raw to) c.args.len (raw_wide c.args.read.now c.args.ends) c.utf8.text c.requires
     c.split_at.ensures.front c.split_at.ensures.back in
     cut_run to c.from_note.result.now run c.from_note.utf8 c.from_note.ensures
     (sym c.contains_notes.ensures ∙ c.if-not-contains_notes.false)

@@ -8,11 +8,11 @@ use Rattle.ini_text.proofs.parser.header.read_bracketed_header.Goals as goal
 
 pub returns-in_err-name-clause-gives : goal.returns-in_err-name-clause-gives
 returns-in_err-name-clause-gives c = passed _ _ _ c.from_residual.ensures.1 c.in_err-name.ensures
-    (λ r k h. ap bracketed_header (c.in-Some.ensures (backslash_of c.args.read)) ∙ h)
+    (λ r k h. ap bracketed_header (c.in-Some.ensures (backslash_of c.args.read.now)) ∙ h)
 
 pub returns-in-Some-clause-gives : goal.returns-in-Some-clause-gives
 returns-in-Some-clause-gives c =
-    ap bracketed_header (c.in-Some.ensures (backslash_of c.args.read)) ∙ c.in_ok-name.ensures
+    ap bracketed_header (c.in-Some.ensures (backslash_of c.args.read.now)) ∙ c.in_ok-name.ensures
 
 pub returns-in_err-rest-clause-gives : goal.returns-in_err-rest-clause-gives
 returns-in_err-rest-clause-gives c = passed _ _ _ c.from_residual-in_err-rest.ensures.1 c.in_err-rest.ensures

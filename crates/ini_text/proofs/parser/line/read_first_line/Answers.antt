@@ -7,7 +7,7 @@ use Rattle.ini_text.proofs.parser.line.read_first_line.Goals as goal
 
 pub returns-in-None : goal.returns-in-None
 returns-in-None c = subst (Gives cow_text c.read_trimmed.result)
-    (sym (line_plain c.args.read (chars c.args.text.now) c.in-None.ensures)) c.read_trimmed.ensures
+    (sym (line_plain c.args.read.now (chars c.args.text.now) c.in-None.ensures)) c.read_trimmed.ensures
 
 pub returns-in_err-end-in-Some : goal.returns-in_err-end-in-Some
 returns-in_err-end-in-Some c =

@@ -18,17 +18,17 @@ unfolding line_text
 returns-in_err-end c =
     passed _ _ _ c.from_residual.ensures.1 c.in_err-end.ensures
     (λ r k h. then_stopped _ _ _
-    (c.parts.invariant.read ∙ part_stops c.args.read _ _ c.in-Some.ensures h))
+    (c.parts.invariant.read ∙ part_stops c.args.read.now _ _ c.in-Some.ensures h))
 
 pub parts-smaller : goal.parts-smaller
 parts-smaller c =
-    rw c.after_first-rest.ensures (part_shortens c.args.read _ _ c.in-Some.ensures c.in_ok-end.ensures)
+    rw c.after_first-rest.ensures (part_shortens c.args.read.now _ _ c.in-Some.ensures c.in_ok-end.ensures)
 
 pub parts-preserved : goal.parts-preserved
 parts-preserved c = record {
   text = search rules;
   read =
-      c.parts.invariant.read ∙ one_part c.args.read _ _ c.in-Some.ensures c.in_ok-end.ensures
+      c.parts.invariant.read ∙ one_part c.args.read.now _ _ c.in-Some.ensures c.in_ok-end.ensures
       ∙ rw c.after_first-rest.ensures;
   quoted = c.parts.invariant.quoted ∙ rw (c.in-Some.ensures, or-true);
 }
@@ -36,7 +36,7 @@ parts-preserved c = record {
 pub returns-in_err-end-2 : goal.returns-in_err-end-2
 returns-in_err-end-2 c =
     passed _ _ _ c.from_residual-in_err-end-2.ensures.1 c.in_err-end-2.ensures
-    (λ r k h. line_stops c.args.read c.args.is_first _ _ _ _ c.parts.invariant.read c.in_default.ensures h)
+    (λ r k h. line_stops c.args.read.now c.args.is_first _ _ _ _ c.parts.invariant.read c.in_default.ensures h)
 
 pub trim_from-requires : goal.trim_from-requires
 trim_from-requires c =
@@ -57,7 +57,7 @@ returns c =
       | else-is_first w ↦
           rw w.if-is_first.false (w.trim_from-is ∙ w.if-is_first.false)
     ] in
-    line_read c.args.read c.args.is_first _ _ _ _ c.parts.invariant.read c.in_default.ensures
+    line_read c.args.read.now c.args.is_first _ _ _ _ c.parts.invariant.read c.in_default.ensures
     c.parts.is_quoted c.parts.invariant.quoted read.1
     (c.in_ok-trim_from.ensures
     ∙ ap (λ n. chars (take n (string_bytes c.read_string-2.new.out)) ++ trimmed_at c.if-is_first.trim_from

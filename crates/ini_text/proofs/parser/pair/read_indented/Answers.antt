@@ -14,7 +14,7 @@ front_before-requires c = (blanks_front c.skip-start.ensures).1
 
 pub returns-in-Ok-clause-gives : goal.returns-in-Ok-clause-gives
 returns-in-Ok-clause-gives c =
-    let o = c.args.read in
+    let o = c.args.read.now in
     let w = run_of is_blank (chars c.args.text.now) in
     let start = chars c.skip-start.result.now in
     let read =
@@ -29,7 +29,7 @@ returns-in-Ok-clause-gives c =
 
 pub returns-in-Err-clause-gives : goal.returns-in-Err-clause-gives
 returns-in-Err-clause-gives c =
-    let o = c.args.read in
+    let o = c.args.read.now in
     let w = run_of is_blank (chars c.args.text.now) in
     let start = chars c.skip-start.result.now in
     let read =
@@ -43,12 +43,12 @@ returns-in-Err-clause-gives c =
 
 pub returns-in-Ok-clause-rests : goal.returns-in-Ok-clause-rests
 returns-in-Ok-clause-rests c =
-    λ places. value_rests c.args.read (chars c.args.text.now) c.read_pair.new.rests
-    (ap (key_string c.args.read) (sym c.skip-start.ensures)
+    λ places. value_rests c.args.read.now (chars c.args.text.now) c.read_pair.new.rests
+    (ap (key_string c.args.read.now) (sym c.skip-start.ensures)
     ∙ (read_after _ _ (unaltered _ _ c.in-Ok.ensures).1).1)
     c.read_pair.result (c.read_pair.ensures.rests places)
 
 pub returns-in-Err-clause-rests : goal.returns-in-Err-clause-rests
 returns-in-Err-clause-rests c =
-    λ _. header_rests c.args.read (chars c.args.text.now) c.args.rests.now c.drop_tail.result
+    λ _. header_rests c.args.read.now (chars c.args.text.now) c.args.rests.now c.drop_tail.result
     c.drop_tail.ensures.nothing

@@ -6,10 +6,10 @@ use Rattle.ini_text.proofs.parser.pair.read_unindented.Goals as goal
 
 pub returns-in_err-key-clause-gives : goal.returns-in_err-key-clause-gives
 returns-in_err-key-clause-gives c =
-    passed _ _ _ c.from_residual.ensures.1 c.in_err-key.ensures (λ r k h. ap (pair_of_key c.args.read) h)
+    passed _ _ _ c.from_residual.ensures.1 c.in_err-key.ensures (λ r k h. ap (pair_of_key c.args.read.now) h)
 
 pub returns-clause-rests : goal.returns-clause-rests
 returns-clause-rests c =
-    λ places. value_rests c.args.read (chars c.args.text.now) c.read_pair.new.rests
-    (ap (key_string c.args.read) c.requires ∙ (unaltered _ _ c.in_ok-key.ensures).1)
+    λ places. value_rests c.args.read.now (chars c.args.text.now) c.read_pair.new.rests
+    (ap (key_string c.args.read.now) c.requires ∙ (unaltered _ _ c.in_ok-key.ensures).1)
     c.read_pair.result (c.read_pair.ensures.rests places)

@@ -21,22 +21,22 @@ returns-in_default-clause-element c = (
 pub returns-in_err-given-clause-element : goal.returns-in_err-given-clause-element
 returns-in_err-given-clause-element c =
     let p = err_from_is_err_and c.from_residual.result c.from_residual.ensures.1 in
-    rw (p.1, p.2) (refuses_element c.args.read c.requires c.in-Some.ensures.characters
+    rw (p.1, p.2) (refuses_element c.args.read.now c.requires c.in-Some.ensures.characters
     c.front_before-front.ensures _ c.in_err-given.ensures.gives)
 
 pub front_before-source-requires : goal.front_before-source-requires
 front_before-source-requires c =
-    source_within c.args.read c.requires c.in-Some.ensures.characters c.front_before-front.ensures
+    source_within c.args.read.now c.requires c.in-Some.ensures.characters c.front_before-front.ensures
     c.in_ok-given.ensures.gives
 
 pub place_pair-places-requires-clause-pair : goal.place_pair-places-requires-clause-pair
-place_pair-places-requires-clause-pair c = begins_pair c.args.read c.requires c.in-Some.ensures.characters
+place_pair-places-requires-clause-pair c = begins_pair c.args.read.now c.requires c.in-Some.ensures.characters
     c.front_before-front.ensures c.in_ok-given.ensures.gives
     (ap given c.in-Some-Pair.is ∙ ap (λ i. borrowed_item_of i ∷ []) c.in-Some-Pair.field-0-is)
 
 pub returns-clause-element : goal.returns-clause-element
 returns-clause-element c =
-    let o = c.args.read in
+    let o = c.args.read.now in
     let b = front_of (chars c.args.text.now) (chars c.args.start.now) in
     let r = chars c.in_ok-given.rest.now in
     elim c.match-given.branch [

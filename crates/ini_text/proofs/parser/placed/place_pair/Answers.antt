@@ -35,6 +35,6 @@ returns-in_default c = λ b s key value holds whole.
           subst (BeginsWithNo is_separator) (sym w.in_default.ensures.characters) tt
     ] in
     subst (λ l. (s ≡ pair_source (made_of (chars c.front_before-key.result.now) None l l l l l))
-    × ArePlaced c.args.read b (made_of (chars c.front_before-key.result.now) None l l l l l)
+    × ArePlaced c.args.read.now b (made_of (chars c.front_before-key.result.now) None l l l l l)
     (chars c.args.end.now) key value) (sym chars-nil)
     (lone_placed _ _ refl c.requires.rests.key_is none c.front_before-key.ensures holds whole)

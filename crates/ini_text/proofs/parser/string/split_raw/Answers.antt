@@ -5,28 +5,7 @@ use Rattle.ini_text.specs.Inside.Scans.{EndsRun, is_run}
 use Rattle.ini_text.proofs.ReaderLemmas.ReaderLemmas.{and_found}
 use Rattle.ini_text.proofs.ReaderLemmas.StringReaderLemmas.{run_to_end, string_at_end, string_ends}
 use Rattle.ini_text.proofs.StringLemmas.PushLemmas.{no_characters, some_characters}
-use Rattle.ini_text.proofs.parser.string.split_raw.Goals.{then-read, else-read, Joined-read}
 use Rattle.ini_text.proofs.parser.string.split_raw.Goals as goal
-
-parts_at : (c : Joined-read) → chars c.args.text.now
-    ≡ chars c.if-read.parts.0.now ++ chars c.if-read.parts.1.now
-parts_at c = elim c.if-read.branch [
-  | then-read w ↦ rw w.parts-is w.split_noted_run-parts.ensures.parts
-  | else-read w ↦ rw w.parts-is w.split_run-parts.ensures.parts
-]
-
-run_at : (c : Joined-read) → is_run (ends_of c.args.read c.args.ends) (chars c.if-read.parts.0.now) ≡ true
-run_at c = elim c.if-read.branch [
-  | then-read w ↦ rw w.parts-is w.split_noted_run-parts.ensures.run
-  | else-read w ↦ rw w.parts-is (w.split_run-parts.ensures.run w.if-read.false)
-]
-
-next_at : (c : Joined-read) → EndsRun (ends_of c.args.read c.args.ends) (chars c.if-read.parts.0.now)
-    (chars c.if-read.parts.1.now)
-next_at c = elim c.if-read.branch [
-  | then-read w ↦ rw w.parts-is w.split_noted_run-parts.ensures.next
-  | else-read w ↦ rw w.parts-is w.split_run-parts.ensures.next
-]
 
 -- a text whose first byte is no backslash begins with another character
 first : (t : List ℕ) → IsUtf8 t → (length t ≡ 0 → ⊥) → get_or t 0 0 ≢ 92
@@ -48,23 +27,21 @@ first t u some other = at (chars t) refl
 
 pub returns-then-is_empty : goal.returns-then-is_empty
 returns-then-is_empty c = λ e.
-    let at = (goal.at.returns-then-is_empty c).Joined-read in
-    let to = ends_of c.args.read c.args.ends in
+    let to = ends_of c.args.read.now c.args.ends in
     let none =
-    no_characters c.if-read.parts.1.now (eqb-true _ 0 (sym c.is_empty.ensures ∙ c.if-is_empty.true)) in
-    and_found (chars c.if-read.parts.0.now)
-    (run_to_end e to (chars c.if-read.parts.0.now) (chars c.if-read.parts.1.now) (parts_at at) (run_at at)
+    no_characters c.split_run.result.1.now (eqb-true _ 0 (sym c.is_empty.ensures ∙ c.if-is_empty.true)) in
+    and_found (chars c.split_run.result.0.now)
+    (run_to_end e to (chars c.split_run.result.0.now) (chars c.split_run.result.1.now) c.split_run.ensures.parts c.split_run.ensures.run
     none)
     (string_at_end e to none (sym c.if-not-contains_text_end.false ∙ c.contains_text_end.ensures))
-    (sym (append-nil (chars c.if-read.parts.0.now)))
+    (sym (append-nil (chars c.split_run.result.0.now)))
 
 pub returns : goal.returns
 returns c = λ e.
-    let at = (goal.at.returns c).Joined-read in
-    let to = ends_of c.args.read c.args.ends in
+    let to = ends_of c.args.read.now c.args.ends in
     let one = first c.as_bytes.result.now c.as_bytes.ensures.utf8
     (λ none. true≢false (sym (eq-eqb _ 0 (ap length (sym c.as_bytes.ensures.value) ∙ none))
     ∙ sym c.is_empty.ensures ∙ c.if-is_empty.false)) c.if-as_bytes-eq92.false in
-    string_ends e to (chars c.if-read.parts.0.now) (chars c.if-read.parts.1.now) (parts_at at) (run_at at)
-    (next_at at)
+    string_ends e to (chars c.split_run.result.0.now) (chars c.split_run.result.1.now) c.split_run.ensures.parts c.split_run.ensures.run
+    c.split_run.ensures.next
     (ap chars (sym c.as_bytes.ensures.value) ∙ one.2) one.3

@@ -8,17 +8,17 @@ trivia-init c = record { text = search rules; within = c.requires; skipped = Are
 
 pub trivia-smaller : goal.trivia-smaller
 trivia-smaller c =
-    (skips_one c.args.read _ c.trivia.invariant.within c.trivia.invariant.skipped c.front_before.ensures
+    (skips_one c.args.read.now _ c.trivia.invariant.within c.trivia.invariant.skipped c.front_before.ensures
     c.in-Some.ensures).shorter
 
 pub trivia-preserved : goal.trivia-preserved
 trivia-preserved c =
     let one =
-    skips_one c.args.read _ c.trivia.invariant.within c.trivia.invariant.skipped c.front_before.ensures
+    skips_one c.args.read.now _ c.trivia.invariant.within c.trivia.invariant.skipped c.front_before.ensures
     c.in-Some.ensures in
     record { text = search rules; within = one.within; skipped = one.skipped }
 
 pub returns-clause-skipped : goal.returns-clause-skipped
 returns-clause-skipped c =
-    skips_all c.args.read _ c.trivia.invariant.within c.trivia.invariant.skipped c.front_before.ensures
+    skips_all c.args.read.now _ c.trivia.invariant.within c.trivia.invariant.skipped c.front_before.ensures
     c.in_default.ensures

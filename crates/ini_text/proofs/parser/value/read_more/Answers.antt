@@ -21,52 +21,52 @@ pub lines-preserved-then-c-eq10 : goal.lines-preserved-then-c-eq10
 lines-preserved-then-c-eq10 c = record {
   tail_text = search rules;
   text = search rules;
-  known = subst (TailSoFar c.args.read (chars c.args.text.now) (chars c.args.start.now)
+  known = subst (TailSoFar c.args.read.now (chars c.args.text.now) (chars c.args.start.now)
       (chars c.lines.tail.now) (chars c.in-Some.after.now))
       (sym c.in_ok-push.ensures)
-      (tail_lf c.args.read c.requires.starts c.lines.invariant.known c.in-Some.ensures.characters
+      (tail_lf c.args.read.now c.requires.starts c.lines.invariant.known c.in-Some.ensures.characters
       c.if-c-eq10.true);
 }
 
 pub returns-in_err-rest : goal.returns-in_err-rest
 returns-in_err-rest c =
     passed _ _ _ c.from_residual-in_err-rest.ensures.1 c.in_err-rest.ensures
-    (λ r k h. tail_stops c.args.read c.requires.starts c.lines.invariant.known
-    (empty_cr_stops c.args.read c.in-Some.ensures.characters c.if-c-eq13.true h))
+    (λ r k h. tail_stops c.args.read.now c.requires.starts c.lines.invariant.known
+    (empty_cr_stops c.args.read.now c.in-Some.ensures.characters c.if-c-eq13.true h))
 
 pub lines-preserved-in-Continue-branch-3 : goal.lines-preserved-in-Continue-branch-3
 lines-preserved-in-Continue-branch-3 c = record {
   tail_text = search rules;
   text = search rules;
-  known = subst (TailSoFar c.args.read (chars c.args.text.now) (chars c.args.start.now)
+  known = subst (TailSoFar c.args.read.now (chars c.args.text.now) (chars c.args.start.now)
       (chars c.lines.tail.now) (chars c.in_ok-rest.rest.now))
       (sym c.in_ok-push-2.ensures)
-      (tail_cr_lf c.args.read c.requires.starts c.lines.invariant.known c.in-Some.ensures.characters
+      (tail_cr_lf c.args.read.now c.requires.starts c.lines.invariant.known c.in-Some.ensures.characters
       c.if-c-eq13.true c.in_ok-rest.ensures);
 }
 
 pub returns-in_default-after_line_end : goal.returns-in_default-after_line_end
 returns-in_default-after_line_end c =
-    tail_comment-last c.args.read c.requires.starts c.requires.multiline c.lines.invariant.known
+    tail_comment-last c.args.read.now c.requires.starts c.requires.multiline c.lines.invariant.known
     c.in-Some.ensures.characters c.in-Some-comment_end.ensures c.in_default-after_line_end.ensures
 
 pub lines-smaller-in-Some-comment_end : goal.lines-smaller-in-Some-comment_end
 lines-smaller-in-Some-comment_end c =
-    tail_comment-shorter c.args.read c.requires.starts c.requires.multiline c.lines.invariant.known
+    tail_comment-shorter c.args.read.now c.requires.starts c.requires.multiline c.lines.invariant.known
     c.in-Some.ensures.characters c.in-Some-comment_end.ensures c.in-Some-after_line_end.ensures
 
 pub lines-preserved-in-Some-comment_end : goal.lines-preserved-in-Some-comment_end
 lines-preserved-in-Some-comment_end c = record {
   tail_text = search rules;
   text = search rules;
-  known = tail_comment c.args.read c.requires.starts c.requires.multiline c.lines.invariant.known
+  known = tail_comment c.args.read.now c.requires.starts c.requires.multiline c.lines.invariant.known
       c.in-Some.ensures.characters c.in-Some-comment_end.ensures c.in-Some-after_line_end.ensures;
 }
 
 pub returns-in_err-line_tail : goal.returns-in_err-line_tail
 returns-in_err-line_tail c =
     passed _ _ _ c.from_residual-in_err-line_tail.ensures.1 c.in_err-line_tail.ensures
-    (λ r k h. tail_line_stops c.args.read c.requires.starts c.lines.invariant.known
+    (λ r k h. tail_line_stops c.args.read.now c.requires.starts c.lines.invariant.known
     c.in-Some.ensures.characters (sym c.contains.ensures ∙ c.if-contains.true)
     c.in_default-comment_end.ensures c.skip.ensures
     (stopped_after _ _ h))
@@ -99,17 +99,17 @@ returns-in_default-after_line_end-2 c =
     let end = chars c.past_note-end.result.now in
     elim c.if-gives_more.branch [
       | then-gives_more w ↦
-          rw w.tail-is (subst (λ x. HasTail c.args.read (chars c.args.text.now) (chars c.args.start.now)
+          rw w.tail-is (subst (λ x. HasTail c.args.read.now (chars c.args.text.now) (chars c.args.start.now)
           left (without_outer_line_feeds x) end) given_is
-          (last_line-own c.args.read c.requires.starts c.requires.multiline
+          (last_line-own c.args.read.now c.requires.starts c.requires.multiline
           c.lines.invariant.known c.in-Some.ensures.characters
           (sym c.contains.ensures ∙ c.if-contains.true) c.in_default-comment_end.ensures
           c.skip.ensures read.1 c.past_note-end.ensures
           c.in_default-after_line_end-2.ensures (not-true _ (sym tells ∙ w.if-gives_more.true))))
       | else-gives_more w ↦
-          rw w.tail-is (subst (λ x. HasTail c.args.read (chars c.args.text.now) (chars c.args.start.now)
+          rw w.tail-is (subst (λ x. HasTail c.args.read.now (chars c.args.text.now) (chars c.args.start.now)
           (chars c.lines.tail.now) (without_outer_line_feeds x) end) given_is
-          (last_line-empty c.args.read c.requires.starts c.requires.multiline
+          (last_line-empty c.args.read.now c.requires.starts c.requires.multiline
           c.lines.invariant.known c.in-Some.ensures.characters
           (sym c.contains.ensures ∙ c.if-contains.true) c.in_default-comment_end.ensures
           c.skip.ensures read.1 c.past_note-end.ensures
@@ -119,7 +119,7 @@ returns-in_default-after_line_end-2 c =
 pub lines-smaller : goal.lines-smaller
 lines-smaller c =
     let read = read_after _ _ c.in_ok-line_tail.ensures in
-    line_shorter c.args.read c.requires.starts c.requires.multiline
+    line_shorter c.args.read.now c.requires.starts c.requires.multiline
     c.lines.invariant.known c.in-Some.ensures.characters
     (sym c.contains.ensures ∙ c.if-contains.true) c.in_default-comment_end.ensures
     c.skip.ensures read.1 c.past_note-end.ensures c.in-Some-after_line_end-2.ensures
@@ -145,9 +145,9 @@ lines-preserved c =
           rw w.tail-is record {
             tail_text = search rules;
             text = search rules;
-            known = subst (TailSoFar c.args.read (chars c.args.text.now) (chars c.args.start.now)
+            known = subst (TailSoFar c.args.read.now (chars c.args.text.now) (chars c.args.start.now)
                 (chars c.in_ok-line_tail.line_tail.now) next) given_is
-                (line-own c.args.read c.requires.starts c.requires.multiline
+                (line-own c.args.read.now c.requires.starts c.requires.multiline
                 c.lines.invariant.known c.in-Some.ensures.characters
                 (sym c.contains.ensures ∙ c.if-contains.true) c.in_default-comment_end.ensures
                 c.skip.ensures read.1 c.past_note-end.ensures
@@ -157,9 +157,9 @@ lines-preserved c =
           rw w.tail-is record {
             tail_text = search rules;
             text = search rules;
-            known = subst (TailSoFar c.args.read (chars c.args.text.now) (chars c.args.start.now)
+            known = subst (TailSoFar c.args.read.now (chars c.args.text.now) (chars c.args.start.now)
                 (chars c.lines.tail.now) next) given_is
-                (line-empty c.args.read c.requires.starts c.requires.multiline
+                (line-empty c.args.read.now c.requires.starts c.requires.multiline
                 c.lines.invariant.known c.in-Some.ensures.characters
                 (sym c.contains.ensures ∙ c.if-contains.true) c.in_default-comment_end.ensures
                 c.skip.ensures read.1 c.past_note-end.ensures
@@ -169,10 +169,10 @@ lines-preserved c =
 
 pub returns-else-contains : goal.returns-else-contains
 returns-else-contains c =
-    tail_other c.args.read c.requires.starts c.requires.multiline
+    tail_other c.args.read.now c.requires.starts c.requires.multiline
     c.lines.invariant.known c.in-Some.ensures.characters c.if-c-eq10.false c.if-c-eq13.false
     (sym c.contains.ensures ∙ c.if-contains.false)
 
 pub returns : goal.returns
-returns c = tail_at_end c.args.read c.requires.starts c.requires.multiline
+returns c = tail_at_end c.args.read.now c.requires.starts c.requires.multiline
     c.lines.invariant.known c.in_default.ensures.characters

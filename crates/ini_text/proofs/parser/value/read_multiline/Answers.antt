@@ -8,15 +8,15 @@ use Rattle.ini_text.proofs.parser.value.read_multiline.Goals as goal
 pub returns-in_err-first-clause-gives : goal.returns-in_err-first-clause-gives
 returns-in_err-first-clause-gives c =
     passed _ _ _ c.from_residual.ensures.1 c.in_err-first.ensures
-    (λ r k h. value_stops c.args.read _ c.skip-start.ensures (line_stopped c.args.read _ _ h))
+    (λ r k h. value_stops c.args.read.now _ c.skip-start.ensures (line_stopped c.args.read.now _ _ h))
 
 pub returns-in_default : goal.returns-in_default
 returns-in_default c =
     let has =
-    subst (λ v. HasTail c.args.read (chars c.args.text.now) (chars c.skip-start.result.now)
+    subst (λ v. HasTail c.args.read.now (chars c.args.text.now) (chars c.skip-start.result.now)
     (chars c.in_ok-first.tail.now) v (chars c.past_note-end.result.now))
     (sym c.in_ok-value.ensures)
-    (line_to_end c.args.read c.skip-start.ensures c.in_ok-first.ensures c.past_note-end.ensures c.requires
+    (line_to_end c.args.read.now c.skip-start.ensures c.in_ok-first.ensures c.past_note-end.ensures c.requires
     c.in_default.ensures) in
     record {
       gives = has.reads;
@@ -27,11 +27,11 @@ returns-in_default c =
 pub returns-then-ends_before : goal.returns-then-ends_before
 returns-then-ends_before c =
     let has =
-    subst (λ v. HasTail c.args.read (chars c.args.text.now) (chars c.skip-start.result.now)
+    subst (λ v. HasTail c.args.read.now (chars c.args.text.now) (chars c.skip-start.result.now)
     (chars c.in_ok-first.tail.now) v (chars c.in-Some.next.now))
     (sym c.in_ok-value-2.ensures)
-    (tail_ends c.args.read c.skip-start.ensures c.requires
-    (tail_begins c.args.read c.skip-start.ensures c.in_ok-first.ensures c.past_note-end.ensures c.requires
+    (tail_ends c.args.read.now c.skip-start.ensures c.requires
+    (tail_begins c.args.read.now c.skip-start.ensures c.in_ok-first.ensures c.past_note-end.ensures c.requires
     c.in-Some.ensures)
     (c.ends_before.ensures.blank c.if-ends_before.true)
     (c.ends_before.ensures.line_end c.if-ends_before.true)) in
@@ -44,10 +44,10 @@ returns-then-ends_before c =
 
 pub read_more-requires-clause-known : goal.read_more-requires-clause-known
 read_more-requires-clause-known c =
-    subst (TailSoFar c.args.read (chars c.args.text.now) (chars c.skip-start.result.now)
+    subst (TailSoFar c.args.read.now (chars c.args.text.now) (chars c.skip-start.result.now)
     (chars c.in_ok-first.tail.now) (chars c.in-Some.next.now))
     (ap chars (sym c.in_ok-lines.ensures.ok))
-    (tail_begins c.args.read c.skip-start.ensures c.in_ok-first.ensures c.past_note-end.ensures c.requires
+    (tail_begins c.args.read.now c.skip-start.ensures c.in_ok-first.ensures c.past_note-end.ensures c.requires
     c.in-Some.ensures)
 
 pub returns-in_err-tail-clause-gives : goal.returns-in_err-tail-clause-gives
@@ -57,7 +57,7 @@ returns-in_err-tail-clause-gives c =
 pub returns : goal.returns
 returns c =
     let has =
-    subst (λ v. HasTail c.args.read (chars c.args.text.now) (chars c.skip-start.result.now)
+    subst (λ v. HasTail c.args.read.now (chars c.args.text.now) (chars c.skip-start.result.now)
     (chars c.in_ok-tail.tail.now) v (chars c.in_ok-tail.rest.now))
     (sym c.in_ok-value-3.ensures) c.in_ok-tail.ensures in
     record {
