@@ -226,6 +226,35 @@ END
 j=1
 END
     fresh
+    edit 'comment, to be undone' \
+        '; a server\nname = one\n[server]\nport = 8080\n; host = a\\tb\nport = 9090\n[client]\n[server]\nlast = 1\n' \
+        comment settings.ini host server
+    edit 'uncomment: what comment made' "$source" uncomment settings.ini host server
+    no_pair="ini_file: settings.ini: this key's comment can't be made a pair: the key has one, the pair wouldn't count, or other lines \
+would be read otherwise"
+    printf '[a]\n# k is one\n#k=1\n; k = 2\n[b]\n;  k = 3\r\n' >settings.ini
+    refused 'uncomment where no section has such a comment' 1 '' uncomment settings.ini k
+    refused 'uncomment of a key that is in no comment' 1 '' uncomment settings.ini j a
+    edit 'uncomment: the first comment that is a pair' '[a]\n# k is one\nk=1\n; k = 2\n[b]\n;  k = 3\r\n' uncomment settings.ini k a
+    refused 'uncomment of a key that has a pair' 3 "$no_pair" uncomment settings.ini k a
+    edit 'uncomment: one blank goes with the mark' '[a]\n# k is one\nk=1\n; k = 2\n[b]\n k = 3\r\n' uncomment settings.ini k b
+    printf 'a = "\n;k = 1\n"\n[s]\nj = 1\n[s]\n; k = 2\n' >settings.ini
+    refused 'uncomment within a value' 1 "note: settings.ini:1:5: this quote isn't closed on its line and takes in the lines up to the next one" \
+        uncomment settings.ini k
+    refused 'uncomment in a later section of the name' 3 "$no_pair" uncomment settings.ini k s
+    edit 'uncomment in joined sections' 'a = "\n;k = 1\n"\n[s]\nj = 1\n[s]\nk = 2\n' --like php uncomment settings.ini k s
+    printf 'a = 1\n; k = 2\n  x = 3\n' >settings.ini
+    refused 'uncomment before a line that would be lost' 3 "$no_pair" --multiline uncomment settings.ini k
+    edit 'uncomment before an indented line' 'a = 1\nk = 2\n  x = 3\n' uncomment settings.ini k
+    printf '[core]\n\t# editor = vi\n\tname = x\n' >settings.ini
+    edit 'uncomment after blanks, in other case' '[core]\n\teditor = vi\n\tname = x\n' --like git uncomment settings.ini Editor CORE
+    case_of 'uncomment in standard input' 0 'k=2\n' '' uncomment - k <<END
+;k=2
+END
+    case_of 'uncomment in standard input of a key that is not there: the text goes on' 1 '; j=1\n' '' uncomment - k <<END
+; j=1
+END
+    fresh
     edit 'add-section: at the end, after an empty line' "$source\n[new]\n" add-section settings.ini new
     edit 'add-section of a name that is there' "$source\n[new]\n" add-section settings.ini client
     edit 'add-section of a name in other case' "$source\n[new]\n\n[NEW]\n" add-section settings.ini --section NEW
@@ -237,6 +266,7 @@ note: it has ]: use --brackets" add-section settings.ini 'a]b'
     rm settings.ini
     edit 'add-section makes a file' '[a]\r\n' --crlf add-section settings.ini a
     rm settings.ini
+    case_of 'uncomment makes no file' 4 '' 'ini_file: settings.ini: No such file or directory (os error 2)' uncomment settings.ini k
     case_of 'comment makes no file' 4 '' 'ini_file: settings.ini: No such file or directory (os error 2)' comment settings.ini k
     fresh
     edit 'set --existing: in its place, and the later pair goes' \

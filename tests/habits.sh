@@ -50,7 +50,7 @@ if has bash completions; then
     offered ' ' ini_tool get ''
     offered 'one two one.ini ' ini_file layers ''
     offered 'one.ini ' ini_file --crlf layers one.ini one.
-    offered 'add add-section apply check comment delete delete-section diff format get keys layers list merge merge3 rename-key rename-section rewrite sections set unset-all ' ini_file ''
+    offered 'add add-section apply check comment delete delete-section diff format get keys layers list merge merge3 rename-key rename-section rewrite sections set uncomment unset-all ' ini_file ''
     offered 'one two one.ini ' ini_file get ''
     offered '--existing ' ini_file set --e
     offered '-- --color --force --format --in-place --output --verbose --wait ' ini_file diff --
@@ -77,7 +77,7 @@ if has bash completions; then
     offered 'one.ini ' ini_file set --existing --output one.
     offered 'one.ini ' ini_tool get key '<' one.
     offered 'one.ini ' ini_file layers one.ini '>' one.
-    offered '-- --force --in-place --output --separator --verbose --wait ' ini_file layers --
+    offered '-- --force --in-place --null --origin --output --separator --verbose --wait ' ini_file layers --
     is 'completions are registered' "$programs" "$(bash -c '. "$0" && for name; do complete -p "$name"; done' \
         "$top/share/completions/bigrosk" $programs | sed 's/^complete -F _bigrosk //' | tr '\n' ' ' | sed 's/ $//')"
 fi

@@ -17,7 +17,7 @@ traps='unclosed-bracket, unclosed-quote, joined-line, runs-on, comment-runs-on, 
 traps="$traps, pair-in-value, repeated-key, repeated-section, after-header, empty-name, section-case, key-case"
 traps="$traps, mark-begins-key, colon-separates, escape-in-name, escape-in-key, escape, mark-in-value, text-after-quote"
 traps="$traps, half-quote, odd-space, not-plain"
-commands='get keys sections list set add delete unset-all comment add-section delete-section rename-key rename-section merge layers diff apply merge3 rewrite format check'
+commands='get keys sections list set add delete unset-all comment uncomment add-section delete-section rename-key rename-section merge layers diff apply merge3 rewrite format check'
 
 # Each mistake is reported by one sentence, and where help is; nothing is read or written. WORDS|TOLD
 mistakes() {
@@ -123,13 +123,18 @@ merge settings.ini - -|- is standard input, which can't be read twice
 set --existing --separator : settings.ini name v|--existing writes no new line, so --separator has no place
 merge - -|- is standard input, which can't be read twice
 unset-all settings.ini|KEY is missing: unset-all takes FILE KEY [SECTION]
+uncomment settings.ini|KEY is missing: uncomment takes FILE KEY [SECTION]
 unset-all settings.ini --all k|unset-all doesn't take --all, but --section --dry-run --output --in-place --force --wait --verbose
 add-section settings.ini|SECTION is missing: add-section takes FILE SECTION
 add-section settings.ini a b|b is one word too many: add-section takes FILE SECTION
 comment settings.ini a b c|c is one word too many: comment takes FILE KEY [SECTION]
 layers|FILE is missing: layers takes FILE ..
 layers - settings.ini -|- is standard input, which can't be read twice
-layers -n settings.ini|layers doesn't take --dry-run, but --separator --output --in-place --force --wait --verbose
+layers -n settings.ini|layers doesn't take --dry-run, but --origin --null --separator --output --in-place --force --wait --verbose
+layers --null settings.ini|layers takes --null with --origin alone
+layers --origin --separator : settings.ini|--origin writes no document, so --separator has no place
+keys --origin settings.ini|keys doesn't take --origin, but --null --section --output --in-place --force --wait --verbose
+diff --origin settings.ini other.ini|diff doesn't take --origin, but --format --color --output --in-place --force --wait --verbose
 layers --force settings.ini|layers takes --force with --output alone
 layers -s server settings.ini|layers has no section, so --section server has no place
 diff settings.ini|OTHER is missing: diff takes FILE OTHER

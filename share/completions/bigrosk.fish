@@ -18,9 +18,9 @@ set -g bigrosk_types bool int size float duration path
 set -g bigrosk_sorts keys sections both
 set -g bigrosk_colors auto always never
 set -g bigrosk_of_files merge layers diff apply merge3 format check
-set -g bigrosk_key_places get,2 set,2 add,2 delete,2 unset-all,2 comment,2 rename-key,2
-set -g bigrosk_section_places get,3 keys,2 set,4 add,4 delete,3 unset-all,3 comment,3 delete-section,2 rename-key,4 \
-    rename-section,2
+set -g bigrosk_key_places get,2 set,2 add,2 delete,2 unset-all,2 comment,2 uncomment,2 rename-key,2
+set -g bigrosk_section_places get,3 keys,2 set,4 add,4 delete,3 unset-all,3 comment,3 uncomment,3 delete-section,2 \
+    rename-key,4 rename-section,2
 # end
 
 # The words before the one that is typed: those that are no options and no option's text come to `bigrosk_arguments`, the section

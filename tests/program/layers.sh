@@ -118,6 +118,14 @@ for n in 20 300 70000; do
         lines "$n" 'k%d=c%d\n'
     } >"$room/merged"
     layers "three files of $n pairs" 0 "$room/merged" first second third
+    awk -v n="$n" 'BEGIN {
+        for (i = 0; i < n; i++)
+            if (i % 3) printf "first:%d:\tk%d\ta%d\n", i + 1, i, i
+            else printf "second:%d:\tk%d\tb%d\n", i / 3 + 1, i, i
+        for (i = 0; i < n; i++) printf "second:%d:\tm%d\t%d\n", int((n + 2) / 3) + i + 1, i, i
+        for (i = 0; i < n; i++) printf "third:%d:[s]\tk%d\tc%d\n", i + 2, i, i
+    }' >"$room/merged"
+    layers "places in three files of $n pairs" 0 "$room/merged" --origin first second third
 done
 refuses 'an empty name' 4 'ini_file: No such file or directory (os error 2)' one.ini ''
 refuses 'a file that is not there' 4 'ini_file: none.ini: No such file or directory (os error 2)' one.ini none.ini two.ini
@@ -186,6 +194,26 @@ printf 'k: b\nj: B\n\n[s]\nx: 1\n' >"$room/merged"
 layers 'a separator' 0 "$room/merged" --separator ': ' app.d
 refuses 'a separator that is not read back' 2 "ini_file: this separator can't be written so that it is read back
 note: it isn't one = or : with spaces and tabs alone around it" --separator x app.d
+# Each pair with the file and the line that its value is from: of the last file that has the key, the pair that counts there.
+printf 'k = 1\nj = 0\n[s]\na = x\na = "y\n"\n[e]\n' >"$here/first.ini"
+printf '\357\273\277; note\r\nk = 2\r\n[s]\r\nb = z\r\n[t]\r\nc = 1\r\n[s]\r\na = w\r\n' >"$here/second.ini"
+printf 'second.ini:2:\tk\t2\nfirst.ini:2:\tj\t0\nfirst.ini:4:[s]\ta\tx\nsecond.ini:4:[s]\tb\tz\nsecond.ini:6:[t]\tc\t1\n' >"$room/merged"
+layers 'places' 0 "$room/merged" --origin first.ini second.ini
+printf 'first.ini:1:\tk\t1\nfirst.ini:2:\tj\t0\nsecond.ini:4:[s]\tb\tz\nfirst.ini:4:[s]\ta\tx\nsecond.ini:6:[t]\tc\t1\n' >"$room/merged"
+layers 'places, the files the other way round' 0 "$room/merged" --origin second.ini first.ini
+printf 'second.ini:2:\tk\t2\nfirst.ini:2:\tj\t0\nsecond.ini:8:[s]\ta\tw\nsecond.ini:4:[s]\tb\tz\nsecond.ini:6:[t]\tc\t1\n' >"$room/merged"
+layers 'places, joined sections and last values' 0 "$room/merged" --like php --origin first.ini second.ini
+printf 'first.ini:1:\tk\t1\nfirst.ini:2:\tj\t0\nfirst.ini:5:[s]\ta\ty\\n\n' >"$room/merged"
+layers 'places, the last value of one file' 0 "$room/merged" --like php --origin first.ini
+printf 'case.ini:2:[s]\tx\t9\njoined.ini:4:[s]\ty\t2\njoined.ini:7:[s]\tz\t3\n' >"$room/merged"
+layers 'places, no notice of case' 0 "$room/merged" --like git --origin joined.ini case.ini
+printf 'app.d/b.conf:1:\tk\tb\napp.d/B.conf:2:\tj\tB\napp.d/b.conf:3:[s]\tx\t1\n' >"$room/merged"
+layers 'places, a folder' 0 "$room/merged" --origin app.d
+printf 'first.ini\0001\000\000k\0001\000first.ini\0002\000\000j\0000\000first.ini\0004\000[s]\000a\000x\000' >"$room/merged"
+layers 'places, as they stand' 0 "$room/merged" --origin --null first.ini
+layers 'places, of nothing' 0 "$room/nothing" --origin empty none.d
+refuses 'places, a broken file' 3 "$broken_file" --origin one.ini broken.ini bytes.ini
+refuses 'places, a file that is no text' 3 'bytes.ini:1:3: this byte is no UTF-8; the file looks like Latin-1: use --encoding latin1' --origin one.ini bytes.ini
 cp "$here/one.ini" "$here/both.ini"
 layers 'into a file' 0 "$room/nothing" --output both.ini both.ini two.ini
 printf 'k=2\nj=2\n\n[s]\na=x\nc=z\n\n[t]\nb=y\n' >"$room/merged"

@@ -10,10 +10,12 @@ pub mod LineLemmas
 pub mod ListedLemmas
 pub mod MergeLemmas
 pub mod OriginLemmas
+pub mod PlacedLemmas
 pub mod RefusedLemmas
 pub mod ShareLemmas
 pub mod SplitLemmas
 pub mod SuggestLemmas
 pub mod TypedGetLemmas
 pub mod TypedLemmas
+pub mod UncommentLemmas
 pub mod ValueListLemmas

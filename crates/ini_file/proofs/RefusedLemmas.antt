@@ -19,6 +19,7 @@ use Rattle.ini_file.specs.Edits.{RefusesMadeBy}
 use Rattle.ini_file.specs.Edits.{is_own}
 use Rattle.ini_file.specs.ValueLists.{RefusesReplaced, RefusesValuesBy}
 use Rattle.ini_file.specs.Further.{FurtherEditing, RefusesFurtherText, RefusesToComment}
+use Rattle.ini_file.specs.Uncomment.{RefusesToUncomment}
 
 adding : {o : ParseOption} {w : WriteOption} {ss : List SectionPiece} {name : Option Text} {key value : Text}
     → RefusesAdding o w ss name key value (TextError NotUtf8) → ⊥
@@ -102,3 +103,4 @@ no_text_further rule o w T (FurtherEditing.AddSection name) (RefusesInText.piece
 no_text_further rule o w T (FurtherEditing.CommentOut name key) (RefusesInText.reading h) = h
 no_text_further rule o w T (FurtherEditing.CommentOut name key) (RefusesInText.pieces r) =
     commenting r.refused
+no_text_further rule o w T (FurtherEditing.Uncomment name key) (RefusesToUncomment.reading h) = h

@@ -67,6 +67,14 @@ abbrev pub writes_texts : Word → Bool
 writes_texts command = bytes_eq command (codes "get") || bytes_eq command (codes "keys")
     || bytes_eq command (codes "sections") || bytes_eq command (codes "list")
 
+-- whether the command may tell where pairs are
+abbrev pub tells_places : Word → Bool
+tells_places command = bytes_eq command (codes "list") || bytes_eq command (codes "layers")
+
+-- whether it may write NUL after each: layers do where they tell where pairs are
+abbrev pub may_be_null : Word → (origin : Bool) → Bool
+may_be_null command origin = writes_texts command || (bytes_eq command (codes "layers") && origin)
+
 -- whether the command makes nothing that belongs into a file: it tells something of files, or lays them over
 -- each other
 abbrev pub answers : Word → Bool
@@ -121,7 +129,7 @@ abbrev pub takes_manner : Word → Chosen → Bool
 takes_manner command c =
     (not (is_some c.manner.kind) || bytes_eq command (codes "get"))
     && (not c.switches.last || (bytes_eq command (codes "get") && not c.switches.all))
-    && (not c.switches.origin || bytes_eq command (codes "list"))
+    && (not c.switches.origin || tells_places command)
     && (not (is_some c.manner.color) || bytes_eq command (codes "diff"))
     && takes_form command c c.manner.form
 
@@ -158,8 +166,9 @@ abbrev pub takes : Word → Chosen → Bool
 takes command c =
     takes_values command c
     && (not (is_some c.default) || bytes_eq command (codes "get"))
-    && (not c.switches.null || writes_texts command)
-    && (not (is_some c.separator) || (writes_pairs command && not c.switches.existing))
+    && (not c.switches.null || may_be_null command c.switches.origin)
+    && (not (is_some c.separator)
+    || (writes_pairs command && not (c.switches.existing || c.switches.origin)))
     && takes_of_texts command c
     && takes_writing command c
 

@@ -30,6 +30,7 @@ use Rattle.ini_dialect.specs.declared.source.PairNumber.{PairNumber}
 use Rattle.ini_words.specs.Words.{Word}
 use Rattle.ini_words.specs.declared.options.Options.{Options}
 use Rattle.ini_file.specs.Remade.{IsRemadeText}
+use Rattle.ini_file.specs.Uncomment.{FindsComment, IsUncommentedText, RefusesToUncomment}
 use Rattle.ini_file.specs.ValueLists.{HasValuesText, RefusesValues, texts_in}
 use Rattle.ini_file.specs.Writing.{IsWriting}
 use Rattle.ini_file.specs.declared.further.FurtherEdit.{FurtherEdit}
@@ -40,12 +41,14 @@ pub data FurtherEditing : Type 0 where
   SetAll : (name : Option Text) (key : Text) (values : List Text) → FurtherEditing
   AddSection : (name : Text) → FurtherEditing
   CommentOut : (name : Option Text) (key : Text) → FurtherEditing
+  Uncomment : (name : Option Text) (key : Text) → FurtherEditing
 
 abbrev pub further_of : FurtherEdit → FurtherEditing
 further_of (edit.DeleteAll name key) = DeleteAll (str_name name) (str_text key)
 further_of (edit.SetAll name key values) = SetAll (str_name name) (str_text key) (texts_in values.now)
 further_of (edit.AddSection name) = AddSection (str_text name)
 further_of (edit.CommentOut name key) = CommentOut (str_name name) (str_text key)
+further_of (edit.Uncomment name key) = Uncomment (str_name name) (str_text key)
 
 -- one of the sections has the name
 abbrev pub has_section : CaseRule → Text → List SectionPiece → Bool
@@ -112,6 +115,7 @@ IsFurtherText rule o w (DeleteAll name key) T U = IsMadeUnder rule o T w (Delete
 IsFurtherText rule o w (SetAll name key values) T U = HasValuesText rule o w name key values T U
 IsFurtherText rule o w (AddSection name) T U = HasSectionText rule.case o w name T U
 IsFurtherText rule o w (CommentOut name key) T U = IsCommentedText rule o name key T U
+IsFurtherText rule o w (Uncomment name key) T U = IsUncommentedText rule o name key T U
 
 -- what the edit is about isn't in the text
 abbrev pub HasNothingFurther : Lookup → ParseOption → FurtherEditing → Text → Type 0
@@ -119,6 +123,7 @@ HasNothingFurther rule o (DeleteAll name key) T = HasNothingUnder rule o T (Dele
 HasNothingFurther rule o (SetAll name key values) T = ⊥
 HasNothingFurther rule o (AddSection name) T = ⊥
 HasNothingFurther rule o (CommentOut name key) T = LacksCounting rule o T name key
+HasNothingFurther rule o (Uncomment name key) T = FindsComment o rule.case key name T None
 
 -- what it is refused with
 abbrev pub RefusesFurtherText : Lookup → ParseOption → WriteOption → FurtherEditing → Text → EditError
@@ -129,6 +134,7 @@ RefusesFurtherText rule o w (SetAll name key values) T e =
 RefusesFurtherText rule o w (AddSection name) T e = RefusesInText o T (RefusesSection w name) e
 RefusesFurtherText rule o w (CommentOut name key) T e =
     RefusesInText o T (RefusesToComment rule name key) e
+RefusesFurtherText rule o w (Uncomment name key) T e = RefusesToUncomment rule o name key T e
 
 -- the bytes are the mark, and after it, in UTF-8, the text T with the edit made in it, written as the options
 -- say

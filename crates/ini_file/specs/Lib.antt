@@ -22,6 +22,7 @@ pub mod Inside
 pub mod JsonLines
 pub mod JsonStrings
 pub mod Jsons
+pub mod LayerOrigins
 pub mod Layered
 pub mod LeftConflicts
 pub mod Looks
@@ -48,6 +49,7 @@ pub mod ThreeWays
 pub mod Told
 pub mod Typed
 pub mod TypedGets
+pub mod Uncomment
 pub mod UsageErrors
 pub mod ValueLists
 pub mod Words

@@ -88,7 +88,8 @@ before_section command =
     if bytes_eq command (codes "keys") || bytes_eq command (codes "delete-section")
     || bytes_eq command (codes "add-section") then Some 1
     else if bytes_eq command (codes "get") || bytes_eq command (codes "delete")
-    || bytes_eq command (codes "unset-all") || bytes_eq command (codes "comment") then Some 2
+    || bytes_eq command (codes "unset-all") || bytes_eq command (codes "comment")
+    || bytes_eq command (codes "uncomment") then Some 2
     else if bytes_eq command (codes "set") || bytes_eq command (codes "add")
     || bytes_eq command (codes "rename-key") then Some 3
     else None

@@ -130,7 +130,7 @@ outcome_of (file_refusal.Coding refused) = Coding refused
 -- what is reported of words that are none of the program's
 abbrev pub usage_line : List ℕ
 usage_line =
-    codes "usage: ini_file [--like NAME] [--noescape] [--noquote] [--multiline] [--indent] [--brackets] "
-    ++ codes "[--raw-backslash] [--indented-comments] [--inline-comments] [--lone-lines NAME] "
+    codes "usage: ini_file [--like NAME] [--encoding NAME] [--noescape] [--noquote] [--multiline] [--indent] "
+    ++ codes "[--brackets] [--raw-backslash] [--indented-comments] [--inline-comments] [--lone-lines NAME] "
     ++ codes "[--crlf] [--policy NAME] "
     ++ codes "COMMAND [CHOICE].. [--] FILE [ARGUMENT]..\n"

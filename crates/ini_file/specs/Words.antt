@@ -10,7 +10,7 @@ use Rattle.ini_dialect.specs.declared.rule.ValueRule.TheVariants.{Last as LastVa
 use Rattle.ini_words.specs.Words.{Word}
 use Rattle.ini_file.specs.Choices.{Chosen}
 use Rattle.ini_file.specs.Fronts.{Called}
-use Rattle.ini_file.specs.Further.{AddSection, CommentOut, DeleteAll, SetAll}
+use Rattle.ini_file.specs.Further.{AddSection, CommentOut, DeleteAll, SetAll, Uncomment}
 use Rattle.ini_file.specs.Requests.{Asks, Request, Ask, Change, Further}
 use Rattle.ini_file.specs.Requests.{Rewrite, Listing, Sections, Keys, Get}
 
@@ -42,6 +42,7 @@ request_with_one command rule c first =
     else if bytes_eq command (codes "unset-all") then Some (Further (DeleteAll None first))
     else if bytes_eq command (codes "add-section") then Some (Further (AddSection first))
     else if bytes_eq command (codes "comment") then Some (Further (CommentOut None first))
+    else if bytes_eq command (codes "uncomment") then Some (Further (Uncomment None first))
     else None
 
 -- to set a value: wherever its pair stands, or only where the key is there
@@ -56,6 +57,7 @@ request_with_two command rule c key second =
     else if bytes_eq command (codes "delete") then Some (Change (Delete (Some second) key))
     else if bytes_eq command (codes "unset-all") then Some (Further (DeleteAll (Some second) key))
     else if bytes_eq command (codes "comment") then Some (Further (CommentOut (Some second) key))
+    else if bytes_eq command (codes "uncomment") then Some (Further (Uncomment (Some second) key))
     else if bytes_eq command (codes "set") then setting c None key second
     else if bytes_eq command (codes "add") then Some (Change (Add None key second))
     else if bytes_eq command (codes "rename-key") then Some (Change (RenameKey None key second))

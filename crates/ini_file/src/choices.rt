@@ -5,9 +5,9 @@ ghost use Rattle.std.specs.Option.{option_map};
 ghost use Rattle.ini_file.specs.Choices.{chosen, chosen_by, chosen_of, has_own_manner, no_choice, no_switch};
 ghost use Rattle.ini_file.specs.Choices.{with_switch};
 ghost use Rattle.ini_file.specs.Choices.{are_of_saving, are_seconds, has_digits_alone, have_no_option};
-ghost use Rattle.ini_file.specs.Choices.{answers, goes_out, is_short_number, takes, takes_layout};
-ghost use Rattle.ini_file.specs.Choices.{takes_form, takes_manner, takes_of_texts, takes_saving};
-ghost use Rattle.ini_file.specs.Choices.{takes_values, takes_writing, writes_pairs, writes_texts};
+ghost use Rattle.ini_file.specs.Choices.{answers, goes_out, is_short_number, may_be_null, takes};
+ghost use Rattle.ini_file.specs.Choices.{takes_form, takes_layout, takes_manner, takes_of_texts, takes_saving};
+ghost use Rattle.ini_file.specs.Choices.{takes_values, takes_writing, tells_places, writes_pairs, writes_texts};
 
 use crate::manner::{Manner, takes_name};
 use crate::spacing::{Spacing, takes_spacing};
@@ -22,7 +22,7 @@ pub struct Switches {
     pub all: bool,
     /// The last value of a key is got, whatever the rule.
     pub last: bool,
-    /// Each pair is listed with its file and its line.
+    /// Each pair is listed with its file and its line, also those of layers.
     pub origin: bool,
     /// What is asked for is written as it stands, with NUL after each name, key and value.
     pub null: bool,
@@ -224,10 +224,13 @@ impl<'a> Choices<'a> {
     {
         self.suit_values(command)
             && implies(self.default.is_some(), command == "get")
-            && implies(self.switches.null, writes_texts(command))
+            && implies(
+                self.switches.null,
+                may_be_null(command, self.switches.origin),
+            )
             && implies(
                 self.separator.is_some(),
-                may_separate(command, self.switches.existing),
+                may_separate(command, self.switches.existing || self.switches.origin),
             )
             && self.suit_texts(command)
             && self.suit_writing(command)
@@ -276,7 +279,7 @@ impl<'a> Choices<'a> {
     {
         implies(self.manner.kind.is_some(), command == "get")
             && implies(self.switches.last, command == "get" && !self.switches.all)
-            && implies(self.switches.origin, command == "list")
+            && implies(self.switches.origin, tells_places(command))
             && implies(self.manner.color.is_some(), command == "diff")
             && self.suit_form(command)
     }
@@ -347,11 +350,25 @@ fn implies(chosen: bool, place: bool) -> bool
     !chosen || place
 }
 
-// Whether the command may write separators.
-fn may_separate(command: &str, existing: bool) -> bool
-    ensures { result ≡ (writes_pairs command.now && not existing) }
+// Whether the command may write separators, where what it writes has new lines of pairs or not.
+fn may_separate(command: &str, has_none: bool) -> bool
+    ensures { result ≡ (writes_pairs command.now && not has_none) }
 {
-    writes_pairs(command) && !existing
+    writes_pairs(command) && !has_none
+}
+
+// Whether the command may tell where pairs are.
+fn tells_places(command: &str) -> bool
+    ensures { result ≡ tells_places command.now }
+{
+    matches!(command, "list" | "layers")
+}
+
+// Whether the command may write NUL after names, keys and values, where it tells where pairs are or not.
+fn may_be_null(command: &str, origin: bool) -> bool
+    ensures { result ≡ may_be_null command.now origin }
+{
+    writes_texts(command) || (command == "layers" && origin)
 }
 
 /// Whether the command writes separators: in new lines of pairs, or in each.

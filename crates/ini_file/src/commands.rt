@@ -12,8 +12,8 @@ use std::fmt;
 
 /// The commands.
 pub const COMMANDS: &str =
-    "get keys sections list set add delete unset-all comment add-section delete-section rename-key \
-    rename-section merge layers diff apply merge3 rewrite format check";
+    "get keys sections list set add delete unset-all comment uncomment add-section delete-section \
+    rename-key rename-section merge layers diff apply merge3 rewrite format check";
 
 /// The names of the forms that commands write.
 pub const FORMS: [&str; 7] = ["lines", "json", "sh", "ini", "edits", "sarif", "github"];
@@ -36,9 +36,9 @@ impl Shape {
         match choice {
             "--existing" => command == "set",
             "--all" => matches!(command, "get" | "sections" | "set"),
-            "--origin" => command == "list",
+            "--origin" => matches!(command, "list" | "layers"),
             "--last" | "--default" | "--type" => command == "get",
-            "--null" => writes_texts(command) || command == "check",
+            "--null" => writes_texts(command) || matches!(command, "check" | "layers"),
             "--format" => FORMS.iter().any(|form| self.writes(form)),
             "--color" => command == "diff",
             "--reverse" => command == "apply",

@@ -14,6 +14,7 @@ ghost use Rattle.ini_file.specs.Writing.{word_of};
 
 use crate::bytes::concat;
 use crate::edit::gets_byte_order_mark;
+use crate::uncomment::uncommented;
 use crate::value_list::set_values;
 use crate::writing::writing;
 use ini_dialect::{CaseRule, Lookup, PairNumber};
@@ -45,6 +46,11 @@ pub enum FurtherEdit<'a> {
         name: Option<&'a str>,
         key: &'a str,
     },
+    /// The first comment that holds a pair of the key is made that pair.
+    Uncomment {
+        name: Option<&'a str>,
+        key: &'a str,
+    },
 }
 
 /// The bytes of a mark and of the text with the edit made in it under the rule; `None` where what it is about
@@ -53,8 +59,8 @@ pub enum FurtherEdit<'a> {
 /// # Errors
 ///
 /// Those of the calls of pieces; `NoPlace` where the pair that counts isn't the first of its key in the first
-/// section of the name, which alone can be made a comment; out of memory; and `Key` where the file has no
-/// mark and the new text begins with U+FEFF, which would be its mark.
+/// section of the name, which alone can be made a comment, and where a comment can't be made a pair; out of
+/// memory; and `Key` where the file has no mark and the new text begins with U+FEFF, which would be its mark.
 pub fn change_further(
     alloc: Global,
     rule: Lookup,
@@ -110,6 +116,7 @@ fn further_text(
         FurtherEdit::CommentOut { name, key } => {
             commented_out(alloc, rule, text, read, name, key)
         }
+        FurtherEdit::Uncomment { name, key } => uncommented(alloc, rule, text, read, name, key),
     }
 }
 

@@ -7,6 +7,7 @@
 use crate::coding::{Coding, FileError};
 use crate::files::{lock_place, read_input, write_output};
 use crate::front::Call;
+use crate::layer_origins::layers_with_origins;
 use crate::layers::{LayersEnd, layered};
 use crate::notes::note_reason;
 use crate::reasons::Reason;
@@ -117,18 +118,27 @@ fn drop_ins(rt: &HostRuntime, folder: &str) -> Result<Vec<String>, Error> {
     Ok(found)
 }
 
-// Lays files over each other that were read, and hands their document on.
+// What comes of files that were read: their document, or its pairs with their places.
+fn end_of(rt: &HostRuntime, call: Call<'_>, files: &ReadFiles) -> LayersEnd {
+    let (options, rule, switches) = (call.options, call.dialect.lookup, call.choices.switches);
+    let (names, texts) = (files.names.as_slice(), files.texts.as_slice());
+    if switches.origin {
+        return layers_with_origins(
+            rt.alloc(),
+            rule,
+            options.reading,
+            switches.null,
+            names,
+            texts,
+        );
+    }
+    layered(rt.alloc(), rule, options, call.separator(), texts)
+}
+
+// Lays files over each other that were read, and hands on what comes of them.
 fn layer_read(rt: &HostRuntime, call: Call<'_>, files: &ReadFiles) -> u8 {
-    let (options, target) = (call.options, Target::of_layers(call));
-    let read = options.reading;
-    let rule = call.dialect.lookup;
-    match layered(
-        rt.alloc(),
-        rule,
-        options,
-        call.separator(),
-        files.texts.as_slice(),
-    ) {
+    let (read, target) = (call.options.reading, Target::of_layers(call));
+    match end_of(rt, call, files) {
         LayersEnd::Done(text) => {
             let coding = Coding::told();
             match write_output(rt, coding, target, None, text.as_slice()) {

@@ -40,6 +40,7 @@ mod json;
 mod json_lines;
 mod json_string;
 mod layer_files;
+mod layer_origins;
 mod layers;
 mod left_conflicts;
 mod lines;
@@ -57,6 +58,7 @@ mod order;
 mod origins;
 mod over;
 mod page;
+mod pair_places;
 mod reasons;
 mod refusals;
 mod report;
@@ -81,6 +83,7 @@ mod told;
 mod typed;
 mod typed_get;
 mod unclosed;
+mod uncomment;
 mod unwritable;
 mod usage_error;
 mod value_list;
@@ -266,7 +269,7 @@ fn run_over_file(rt: &HostRuntime, named: Option<Encoding>, asked: Invocation<'_
     ended
 }
 
-// Tells how a run ended; where a pair can't be made a comment in words of its own.
+// Tells how a run ended; where a pair can't be made a comment, or that a pair, in words of its own.
 fn refuse_asked(
     rt: &HostRuntime,
     asked: Invocation<'_>,
@@ -274,14 +277,22 @@ fn refuse_asked(
     input: &[u8],
     outcome: &Outcome,
 ) -> u8 {
-    match (asked.command, outcome) {
-        (Command::Further(FurtherEdit::CommentOut { .. }), Outcome::Refused(EditError::NoPlace)) =>
-            {
-                let mut err = rt.stderr();
-                let _ = writeln!(err, "ini_file: {}: {NO_COMMENT}", Shown(reported));
-                status(outcome)
-            }
+    match no_place_of(asked.command) {
+        Some(words) if matches!(outcome, Outcome::Refused(EditError::NoPlace)) => {
+            let mut err = rt.stderr();
+            let _ = writeln!(err, "ini_file: {}: {words}", Shown(reported));
+            status(outcome)
+        }
         _ => refuse(rt, asked.options.reading, reported, input, outcome),
+    }
+}
+
+// What a command is refused with for want of a place, where it puts in no line.
+fn no_place_of(command: Command<'_>) -> Option<&'static str> {
+    match command {
+        Command::Further(FurtherEdit::CommentOut { .. }) => Some(NO_COMMENT),
+        Command::Further(FurtherEdit::Uncomment { .. }) => Some(NO_PAIR),
+        _ => None,
     }
 }
 
@@ -289,6 +300,11 @@ fn refuse_asked(
 const NO_COMMENT: &str =
     "this pair can't be made a comment: it doesn't begin its line, or isn't the first of its key in the \
     first section of the name";
+
+// Why a comment can't be made a pair.
+const NO_PAIR: &str =
+    "this key's comment can't be made a pair: the key has one, the pair wouldn't count, or other lines \
+    would be read otherwise";
 
 // Answers a question in a manner of its own.
 fn tell_manner(rt: &HostRuntime, named: Option<Encoding>, asked: Invocation<'_>) -> u8 {
@@ -336,7 +352,9 @@ fn tell_more(rt: &HostRuntime, asked: Invocation<'_>, outcome: &Outcome, input: 
 fn edit_alike(asked: Invocation<'_>) -> Option<Edit<'_>> {
     match asked.command {
         Command::Further(
-            FurtherEdit::DeleteAll { name, key } | FurtherEdit::CommentOut { name, key },
+            FurtherEdit::DeleteAll { name, key }
+            | FurtherEdit::CommentOut { name, key }
+            | FurtherEdit::Uncomment { name, key },
         ) => Some(Edit::Delete { name, key }),
         Command::Further(FurtherEdit::SetAll { name, key, values }) => {
             let (options, policy) = (asked.options.reading, asked.options.escape_policy);

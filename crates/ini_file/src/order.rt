@@ -289,7 +289,7 @@ pub fn before_section(command: &str) -> Option<usize>
 {
     match command {
         "keys" | "delete-section" | "add-section" => Some(1),
-        "get" | "delete" | "unset-all" | "comment" => Some(2),
+        "get" | "delete" | "unset-all" | "comment" | "uncomment" => Some(2),
         "set" | "add" | "rename-key" => Some(3),
         _ => None,
     }

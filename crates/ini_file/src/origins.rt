@@ -95,8 +95,13 @@ fn push_origin(
     }
 }
 
-// What stands before a pair.
-fn place_of_line(alloc: Global, file: &str, null: bool, line: usize) -> Result<String, AllocError>
+/// What stands before a pair.
+pub(crate) fn place_of_line(
+    alloc: Global,
+    file: &str,
+    null: bool,
+    line: usize,
+) -> Result<String, AllocError>
     ensures { IfOk result (λ place. string_bytes place ≡ place_word null file.now line) }
 {
     if null {
@@ -106,8 +111,8 @@ fn place_of_line(alloc: Global, file: &str, null: bool, line: usize) -> Result<S
     }
 }
 
-// Puts a pair last, after its place.
-fn push_placed_pair<'x>(
+/// Puts a pair last, after its place.
+pub(crate) fn push_placed_pair<'x>(
     lines: &mut Vec<u8>,
     null: bool,
     place: &'x str,

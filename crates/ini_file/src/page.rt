@@ -66,6 +66,7 @@ Commands; no SECTION is the general one, FILE - is standard input:
   delete FILE KEY [SECTION]                 takes the key's first pair out
   unset-all FILE KEY [SECTION]              takes each pair of the key out
   comment FILE KEY [SECTION]                makes the key's first pair a comment
+  uncomment FILE KEY [SECTION]              makes the key's first comment a pair
   add-section FILE SECTION                  an empty section, where there is none
   delete-section FILE SECTION               takes the section out
   rename-key FILE OLD NEW [SECTION]         the key's first pair gets another key
@@ -118,12 +119,14 @@ Choices:
                    each header's name, also where it comes again; of set: the key
                    has all VALUEs that follow, and no others; SECTION by -s
   --last           of get: the last value of the key
-  --origin         of list: the file and the line before each pair
+  --origin         of list: the file and the line before each pair; of layers: its
+                   pairs so, in place of the document
   --default VALUE  of get: the value where the key isn't there
   --type NAME      of get: the value as a bool, int, size, float, duration or path,
                    in one form
-  --null           of get, keys, sections and list: names, keys and values as they
-                   stand, each with NUL after it; so the parts of check's warnings
+  --null           of get, keys, sections, list and layers --origin: names, keys and
+                   values as they stand, each with NUL after it; so the parts of
+                   check's warnings
   --ours           of merge3: ours stands where both changed a setting
   --theirs         of merge3: theirs does
   --separator TEXT of set, add, rewrite, layers and format: what stands between

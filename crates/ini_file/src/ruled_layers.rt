@@ -95,8 +95,13 @@ fn push_section<'a>(
     Ok(())
 }
 
-// The value of the key that counts; the empty one where there is none.
-fn value_or_empty<'a>(rule: Lookup, document: &'a Ini, name: Option<&str>, key: &str) -> &'a str
+/// The value of the key that counts; the empty one where there is none.
+pub(crate) fn value_or_empty<'a>(
+    rule: Lookup,
+    document: &'a Ini,
+    name: Option<&str>,
+    key: &str,
+) -> &'a str
     ensures { str_text result ≡ unwrap_or
         (value_under rule (str_name name.entry) (chars key.now) document.now) [] }
 {

@@ -43,14 +43,14 @@ pub enum UsageError<'a> {
     Command(&'a str),
     /// A choice that the command hasn't.
     Choice(Shape, &'a str),
-    /// A choice about the file that is written, where none is.
-    NeedsOutput(Shape, &'a str),
-    /// A choice about a file that is mended, where none is.
-    NeedsFix(&'a str),
+    /// A choice that the command takes beside this other one alone, without it.
+    Needs(Shape, &'a str, &'static str),
     /// Mends, or a form of warnings, where dialects are written.
     SuggestsAlone,
     /// A separator of new lines where none is written.
     NoNewLine,
+    /// A separator where places of pairs are told.
+    NoDocument,
     /// The last value, where each is got.
     LastOfAll,
     /// Standard input twice.
@@ -146,11 +146,10 @@ fn choice_error<'a>(shape: Shape, choices: &[&'a str]) -> Option<UsageError<'a>>
         if !shape.takes(word) {
             return Some(UsageError::Choice(shape, word));
         }
-        if needs_output(shape, word) && !choices.contains(&"--output") {
-            return Some(UsageError::NeedsOutput(shape, word));
-        }
-        if needs_fix(shape, word) && !choices.contains(&"--fix") {
-            return Some(UsageError::NeedsFix(word));
+        if let Some(other) = needed_beside(shape, word) {
+            if !choices.contains(&other) {
+                return Some(UsageError::Needs(shape, word, other));
+            }
         }
         if is_of_writing(word) && choices.contains(&"--check") {
             return Some(UsageError::NoFile(word));
@@ -177,6 +176,9 @@ fn pair_error<'a>(shape: Shape, choices: &[&'a str]) -> Option<UsageError<'a>> {
     }
     if choices.contains(&"--existing") && choices.contains(&"--separator") {
         return Some(UsageError::NoNewLine);
+    }
+    if choices.contains(&"--origin") && choices.contains(&"--separator") {
+        return Some(UsageError::NoDocument);
     }
     None
 }
@@ -215,14 +217,17 @@ fn text_error<'a>(shape: Shape, choice: &str, text: &'a str) -> Option<UsageErro
     }
 }
 
-// Whether the choice is about a file that the command writes with `--output` alone.
-fn needs_output(shape: Shape, choice: &str) -> bool {
-    goes_out(shape.command) && matches!(choice, "--in-place" | "--force" | "--wait" | "--verbose")
-}
-
-// Whether the choice is about a file that the command writes with `--fix` alone.
-fn needs_fix(shape: Shape, choice: &str) -> bool {
-    shape.command == "check" && (choice == "--dry-run" || is_of_writing(choice))
+// The choice without which the command doesn't take this one: `--output` or `--fix` of what is about a file
+// that is written, and `--origin` of what is about listed pairs.
+fn needed_beside(shape: Shape, choice: &str) -> Option<&'static str> {
+    let is_of_file = matches!(choice, "--in-place" | "--force" | "--wait" | "--verbose");
+    if goes_out(shape.command) && is_of_file {
+        return Some("--output");
+    }
+    if shape.command == "check" && (choice == "--dry-run" || is_of_writing(choice)) {
+        return Some("--fix");
+    }
+    (shape.command == "layers" && choice == "--null").then_some("--origin")
 }
 
 // Whether the choice is about a file that is written.
@@ -291,6 +296,12 @@ fn print_error<W: Write>(error: UsageError<'_>, err: &mut W) -> io::Result<()> {
                 "--existing writes no new line, so --separator has no place"
             )
         }
+        UsageError::NoDocument => {
+            writeln!(
+                err,
+                "--origin writes no document, so --separator has no place"
+            )
+        }
         UsageError::OneForm => writeln!(
             err,
             "--format writes one form, so --null, --origin and --type have no place"
@@ -317,9 +328,9 @@ fn print_command_error<W: Write>(error: UsageError<'_>, err: &mut W) -> io::Resu
             write!(err, "{} doesn't take {choice}", shape.command)?;
             print_choices(shape, err)
         }
-        UsageError::NeedsOutput(shape, choice) => {
+        UsageError::Needs(shape, choice, other) => {
             let command = shape.command;
-            writeln!(err, "{command} takes {choice} with --output alone")
+            writeln!(err, "{command} takes {choice} with {other} alone")
         }
         UsageError::SuggestsAlone => {
             writeln!(
@@ -327,7 +338,6 @@ fn print_command_error<W: Write>(error: UsageError<'_>, err: &mut W) -> io::Resu
                 "check takes --suggest without --fix, --null and --format"
             )
         }
-        UsageError::NeedsFix(choice) => writeln!(err, "check takes {choice} with --fix alone"),
         UsageError::Section(shape, name) => {
             let (name, command) = (Shown(name), shape.command);
             writeln!(

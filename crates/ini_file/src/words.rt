@@ -20,7 +20,7 @@ use ini_words::{Options, usage_line};
 
 /// The line that tells what the program takes, with its line end.
 pub const USAGE: &str = usage_line!(
-    "ini_file [--like NAME]",
+    "ini_file [--like NAME] [--encoding NAME]",
     "COMMAND [CHOICE].. [--] FILE [ARGUMENT]..",
 );
 
@@ -200,6 +200,7 @@ fn with_one<'a>(word: &str, rule: Rule, choices: Choices<'a>, first: &'a str) ->
         "unset-all" => Some(Command::Further(FurtherEdit::DeleteAll { name: None, key })),
         "add-section" => Some(Command::Further(FurtherEdit::AddSection { name: first })),
         "comment" => Some(Command::Further(FurtherEdit::CommentOut { name: None, key })),
+        "uncomment" => Some(Command::Further(FurtherEdit::Uncomment { name: None, key })),
         _ => None,
     }
 }
@@ -236,6 +237,7 @@ fn with_two<'a>(
         "delete" => Some(Command::Change(Edit::Delete { name: section, key })),
         "unset-all" => Some(Command::Further(FurtherEdit::DeleteAll { name: section, key })),
         "comment" => Some(Command::Further(FurtherEdit::CommentOut { name: section, key })),
+        "uncomment" => Some(Command::Further(FurtherEdit::Uncomment { name: section, key })),
         "set" => set_of(choices, None, key, second),
         "add" => {
             Some(Command::Change(Edit::Add {
