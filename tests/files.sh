@@ -394,6 +394,11 @@ renaming() {
     edit 'delete-section: comments after the last pair stay' '# top\n# about b\n[b]\nj = 2\n' \
         delete-section settings.ini a
     refused 'delete-section of a section that is not there' 1 '' delete-section settings.ini nowhere
+    fresh
+    edit 'delete-section where sections are joined: each of the name' '; a server\nname = one\n[client]\n' \
+        --like php delete-section settings.ini server
+    edit 'delete-section in other case' '; a server\nname = one\n' --like git delete-section settings.ini Client
+    refused 'delete-section of a section of other case' 1 '' --like php delete-section settings.ini Server
     refused 'delete-section without a section' 2 "$usage" delete-section settings.ini
     fresh
     edit 'rename-key: the first pair of the key' \
@@ -414,6 +419,17 @@ renaming() {
         "ini_file: settings.ini: this name can't be written so that it is read back
 note: it has ]: use --brackets" rename-section settings.ini nowhere 'a]b'
     refused 'rename-section with too many words' 2 "$usage" rename-section settings.ini client x y
+    fresh
+    edit 'rename-section where sections are joined: each of the name' \
+        '; a server\nname = one\n[host]\nport = 8080\nhost = a\\tb\nport = 9090\n[client]\n[host]\nlast = 1\n' \
+        --like php rename-section settings.ini server host
+    printf '[ core ]\na = 1\n[Core]\nb = 2\n[other]\n[CORE]\n' >settings.ini
+    edit 'rename-section to other case: what has it stays' '[Core]\na = 1\n[Core]\nb = 2\n[other]\n[Core]\n' \
+        --like git rename-section settings.ini CORE Core
+    refused 'rename-section to a name that would not be read back, under a rule' 2 \
+        "ini_file: settings.ini: this name can't be written so that it is read back
+note: it has ]: use --brackets" --like git rename-section settings.ini core 'a]b'
+    refused 'rename-section under a rule of a section that is not there' 1 '' --like git rename-section settings.ini nowhere x
 }
 
 # values with backslashes, where escapes are neither read nor written
@@ -1035,6 +1051,11 @@ END
     case_of 'merge: options of reading' 0 "k='v'\n[a]\nk=1\n" '' --noquote merge --output - settings.ini ../quotes.ini
     rm settings.ini
     edit 'merge: options of writing' '[a]\r\nk=1\r\n' --crlf merge settings.ini ../one.ini
+    fresh
+    printf '[Server]\nport = 1\nlast = 2\n[client]\nID = 7\n[server]\nport = 3\nnew = 4\n' >../other.ini
+    edit 'merge under a rule: the values that count, where they count' \
+        '; a server\nname = one\n[server]\nport = 8080\nhost = a\\tb\nport = 3\n[client]\nID = 7\n[server]\nlast = 2\nnew = 4\n' \
+        --like git merge settings.ini ../other.ini
 }
 
 # merges that are refused
@@ -1054,6 +1075,9 @@ unmerged() {
     refused 'merge of a value that would not be read back' 2 \
         "ini_file: settings.ini: [new] k: this value can't be written so that it is read back$edges" \
         merge settings.ini ../plain.ini ../unplain.ini
+    refused 'merge under a rule of a value that would not be read back' 2 \
+        "ini_file: settings.ini: [new] k: this value can't be written so that it is read back$edges" \
+        --like php merge settings.ini ../plain.ini ../unplain.ini
     refused 'merge of no other file' 2 "$usage" merge settings.ini
     refused 'merge of standard input, twice' 2 "$usage" merge settings.ini - -
     refused 'merge of standard input into itself' 2 "$usage" merge - -

@@ -4,7 +4,8 @@
 
 NAME is git, which `git config` reads, python, which configparser reads, php, which php reads, or desktop, which GLib's GKeyFile
 reads by READER, the program of key_file.c. Each value that these find in a text is asked of INI_FILE --like NAME, and each key
-that isn't there. Then each is set by INI_FILE, and deleted, and a key is set that isn't there: the reader finds just that change.
+that isn't there. Then each is set by INI_FILE, and deleted, and a key is set that isn't there; each section is deleted, renamed, and
+the target of a merge: the reader finds just that change.
 Each difference is a line, then the number of texts; the status is 1 where there is one.
 """
 import configparser
@@ -225,6 +226,14 @@ def count_edits(text):
         wrong += not edited(text, ("delete", key, section), {other: old[other] for other in old if other != at})
     for section in {section for section, _ in old}:
         wrong += not edited(text, ("set", "new", "v2", section), old | {(section, "new"): "v2"})
+        named = section.upper() if ANY_CASE else section
+        others = {at: value for at, value in old.items() if at[0] != section}
+        wrong += not edited(text, ("delete-section", named), others)
+        renamed = {("renamed", key): value for (name, key), value in old.items() if name == section}
+        wrong += not edited(text, ("rename-section", named, "renamed"), others | renamed)
+        first = next(key for name, key in old if name == section)
+        pathlib.Path("o").write_bytes(f"[{section}]\n{first} = v1\n[{named}]\nnew = v3\n{first} = v2\n".encode())
+        wrong += not edited(text, ("merge", "o"), old | {(section, first): "v2", (section, "new"): "v3"})
     return wrong
 
 

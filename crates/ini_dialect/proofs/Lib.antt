@@ -14,6 +14,8 @@ pub mod PutUnderLemmas
 pub mod ReadLemmas
 pub mod RuleLemmas
 pub mod RuledTextLemmas
+pub mod SectionEditLemmas
+pub mod SectionLawLemmas
 pub mod SectionLemmas
 pub mod SourceLookupLemmas
 pub mod TextLemmas

@@ -1,8 +1,6 @@
 -- Whether texts and names fit is an equivalence.
-use Rattle.std.proofs.Common.{◌≡◌, true, false, Bool, map}
 use Rattle.std.specs.Cmp.{IsEquivalence}
 use Rattle.std.specs.Cmp.Lexicographic.{nat_list_eq_equiv, options_equiv}
-use Rattle.ini.specs.Texts.{Text, is_text}
 use Rattle.ini_dialect.specs.Lookups.{name_fits, small, text_fits}
 use Rattle.ini_dialect.specs.declared.rule.CaseRule.{CaseRule}
 use Rattle.ini_dialect.specs.declared.rule.CaseRule.TheVariants.{Kept, Ignored}

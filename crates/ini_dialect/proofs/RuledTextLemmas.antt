@@ -1,15 +1,35 @@
 -- What an edit of a whole text under a rule is refused with, from what its pieces are.
-use Rattle.std.proofs.Common.{Option, subst}
+use Rattle.std.proofs.Common.{◌≡◌, Option, refl, subst}
+use Rattle.ini_text.specs.Laws.Plain.{IsPlainName}
+use Rattle.ini_text.specs.declared.error.Error.TheVariants.{Io, Memory, NoProgress, NotUtf8, Parse}
 use Rattle.ini_text.specs.declared.option.ParseOption.{ParseOption}
 use Rattle.ini_text.specs.declared.write.option.WriteOption.{WriteOption}
 use Rattle.ini_text.specs.declared.write.policy.EscapePolicy.{EscapePolicy}
 use Rattle.ini.specs.Texts.{Text}
+use Rattle.ini_edit.specs.Edited.{IsNameOrMemory}
 use Rattle.ini_edit.specs.Sources.{Pieces}
 use Rattle.ini_edit.specs.WholeTexts.{IsReadInPieces}
 use Rattle.ini_edit.specs.declared.error.EditError.{EditError}
+use Rattle.ini_edit.specs.declared.error.EditError.TheVariants.{Key, Name, NoPlace, Separator, Value}
+use Rattle.ini_edit.specs.declared.error.EditError.TheVariants.{Text as TextError}
 use Rattle.ini_dialect.specs.RuledTexts.{RefusesInText, RefusesToAddTextUnder, RefusesToSetTextUnder}
+use Rattle.ini_dialect.specs.SectionEdits.{RefusesName}
 use Rattle.ini_dialect.specs.SourceLookups.{RefusesToPutUnder, RefusesUnder, RefusesValue}
 use Rattle.ini_dialect.specs.declared.rule.Lookup.{Lookup}
+
+-- what renaming is refused with
+refuses_name : (o : ParseOption) (policy : EscapePolicy) (name : Text) (e : EditError) → IsNameOrMemory e
+    → (e ≡ Name → ¬ IsPlainName o policy name) → RefusesName o policy name e
+refuses_name o policy name Name only plain = plain refl
+refuses_name o policy name (TextError (Memory m)) only plain = tt
+refuses_name o policy name (TextError (Io e)) only plain = absurd only
+refuses_name o policy name (TextError (Parse e)) only plain = absurd only
+refuses_name o policy name (TextError NotUtf8) only plain = absurd only
+refuses_name o policy name (TextError NoProgress) only plain = absurd only
+refuses_name o policy name Key only plain = absurd only
+refuses_name o policy name Value only plain = absurd only
+refuses_name o policy name Separator only plain = absurd only
+refuses_name o policy name NoPlace only plain = absurd only
 
 module _ {o : ParseOption} {T : Text} {p : Pieces} (read : IsReadInPieces o T p) where
   pieces_refused : (refuses : ParseOption → Pieces → EditError → Type 0) {e : EditError}
@@ -24,6 +44,11 @@ module _ {o : ParseOption} {T : Text} {p : Pieces} (read : IsReadInPieces o T p)
   pub value_refused : (policy : EscapePolicy) (value : Text) (e : EditError)
       → RefusesValue p.option policy value e → RefusesInText o T (λ q. RefusesValue o policy value) e
   value_refused policy value e = pieces_refused (λ x q. RefusesValue x policy value)
+
+  pub name_refused : (policy : EscapePolicy) (name : Text) (e : EditError) → IsNameOrMemory e
+      → (e ≡ Name → ¬ IsPlainName p.option policy name) → RefusesInText o T (λ q. RefusesName o policy name) e
+  name_refused policy name e only plain =
+      pieces_refused (λ x q. RefusesName x policy name) (refuses_name p.option policy name e only plain)
 
   module _ {rule : Lookup} {name : Option Text} {key : Text} {w : WriteOption} {value : Text}
       {e : EditError} where

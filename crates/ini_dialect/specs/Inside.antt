@@ -6,8 +6,11 @@ use Rattle.std.specs.Map.{lookup}
 use Rattle.std.specs.Option.{option_or}
 use Rattle.ini.specs.Texts.{Text}
 use Rattle.ini.specs.Documents.{Document}
+use Rattle.ini_edit.specs.SourceEdits.{first_fitting}
 use Rattle.ini_edit.specs.SourceEditsAt.{at_index}
+use Rattle.ini_edit.specs.Sources.{SectionPiece}
 use Rattle.ini_dialect.specs.Lookups.{name_fits, set_under, text_fits, with_value}
+use Rattle.ini_dialect.specs.SectionEdits.{IsFirstNamed}
 use Rattle.ini_dialect.specs.declared.rule.Lookup.{Lookup}
 use Rattle.ini_dialect.specs.declared.rule.SectionRule.{SectionRule}
 use Rattle.ini_dialect.specs.declared.rule.SectionRule.TheVariants.{First as FirstSection, Joined}
@@ -67,3 +70,8 @@ IsSettingAt rule name key d (Some n) =
     (value : Text) → at_index n (with_value rule key value) d ≡ set_under rule name key value d
 IsSettingAt rule name key d None =
     (value : Text) → d ++ (name, (key, value) ∷ []) ∷ [] ≡ set_under rule name key value d
+
+-- the first of the sections that passes has this name; or there is none
+abbrev pub IsFirstName : (Option Text → Bool) → List SectionPiece → Option Text → Type 0
+IsFirstName test ss None = first_fitting (λ s. test s.name) ss ≡ None
+IsFirstName test ss (Some name) = IsFirstNamed test ss name

@@ -9,6 +9,7 @@ pub mod Lookups
 pub mod Numbers
 pub mod RuledTexts
 pub mod Rules
+pub mod SectionEdits
 pub mod SourceLookups
 pub mod Typed
 pub mod Walks

@@ -1,5 +1,5 @@
 -- What holds of a look-up under a rule: after an edit under the rule, and by the default rule.
-use Rattle.std.specs.Prelude.{◌≡◌, false, ◌&&◌, List, [], Option, Some, unwrap_or}
+use Rattle.std.specs.Prelude.{◌≡◌, false, ◌&&◌, [], Option, Some, unwrap_or}
 use Rattle.ini.specs.Texts.{Text}
 use Rattle.ini.specs.Properties.{distinct}
 use Rattle.ini.specs.Documents.{Document, first_section, names, value_in}
@@ -7,7 +7,9 @@ use Rattle.ini.specs.EditLaws.{values_in}
 use Rattle.ini_dialect.specs.Lookups.{all_values, delete_under, keys_under, name_fits, names_under}
 use Rattle.ini_dialect.specs.Lookups.{set_under}
 use Rattle.ini_dialect.specs.Lookups.{text_fits, value_under}
+use Rattle.ini_dialect.specs.SectionEdits.{sections_removed}
 use Rattle.ini_dialect.specs.declared.rule.Lookup.{Lookup}
+use Rattle.ini_dialect.specs.declared.rule.SectionRule.TheVariants.{Joined}
 
 -- a look-up by another name or another key answers what it answered
 abbrev pub KeepsOtherLookups : Lookup → Option Text → Text → (Document → Document) → Type 0
@@ -23,6 +25,17 @@ AnswersSet rule name key value = (d : Document)
 abbrev pub AnswersNothing : Lookup → Option Text → Text → Type 0
 AnswersNothing rule name key = (d : Document)
     → all_values rule name key (delete_under rule name key d) ≡ []
+
+-- after the sections of a name are taken out, and they are joined, a look-up there answers nothing
+abbrev pub LosesSections : Lookup → Text → Type 0
+LosesSections rule name = rule.sections ≡ Joined → (key : Text) (d : Document)
+    → all_values rule (Some name) key (sections_removed rule name d) ≡ []
+
+-- and by a name that doesn't fit what it answered
+abbrev pub KeepsOtherSections : Lookup → Text → Type 0
+KeepsOtherSections rule name = (n : Option Text) (key : Text) (d : Document)
+    → name_fits rule.case n (Some name) ≡ false
+    → all_values rule n key (sections_removed rule name d) ≡ all_values rule n key d
 
 -- the rule answers what the calls of a document and of its first section answer
 pub record AnswersAsCrate (rule : Lookup) : Type 0 where

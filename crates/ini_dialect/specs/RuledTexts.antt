@@ -1,6 +1,6 @@
 -- What an edit makes of a whole text under a rule: the text is read in pieces, these are edited, and written
 -- again.
-use Rattle.std.specs.Prelude.{◌≡◌, Option, None}
+use Rattle.std.specs.Prelude.{◌≡◌, false, Option, None}
 use Rattle.ini_text.specs.declared.error.Error.{Error}
 use Rattle.ini_text.specs.declared.option.ParseOption.{ParseOption}
 use Rattle.ini_text.specs.declared.write.option.WriteOption.{WriteOption}
@@ -8,7 +8,7 @@ use Rattle.ini_text.specs.declared.write.policy.EscapePolicy.{EscapePolicy}
 use Rattle.ini.specs.Documents.{Document}
 use Rattle.ini.specs.Loading.{IsDocumentOf}
 use Rattle.ini.specs.Texts.{Text}
-use Rattle.ini_edit.specs.Editings.{Editing, Set, SetExisting, Add, Delete}
+use Rattle.ini_edit.specs.Editings.{Editing, Set, SetExisting, Add, Delete, DeleteSection, RenameSection}
 use Rattle.ini_edit.specs.Made.{HasNothing}
 use Rattle.ini_edit.specs.SourceEditsSet.{IsMemoryRefusal}
 use Rattle.ini_edit.specs.Sources.{Pieces}
@@ -16,6 +16,8 @@ use Rattle.ini_edit.specs.WholeTexts.{IsEditedText, IsMadeText, IsRefusalOf, Ref
 use Rattle.ini_edit.specs.declared.error.EditError.{EditError}
 use Rattle.ini_edit.specs.declared.error.EditError.TheVariants.{Text as TextError}
 use Rattle.ini_dialect.specs.Lookups.{add_under, delete_under, set_under, value_under}
+use Rattle.ini_dialect.specs.SectionEdits.{AreSectionsDeleted, AreSectionsRenamed, RefusesName, has_named}
+use Rattle.ini_dialect.specs.SectionEdits.{sections_removed, sections_renamed}
 use Rattle.ini_dialect.specs.SourceLookups.{AreDeletedUnder, IsAddedUnder, IsPutUnder, IsSetUnder}
 use Rattle.ini_dialect.specs.SourceLookups.{RefusesToPutUnder, RefusesUnder, RefusesValue}
 use Rattle.ini_dialect.specs.declared.rule.Lookup.{Lookup}
@@ -32,6 +34,12 @@ module _ (rule : Lookup) (o : ParseOption) (T : Text) where
     pub document : Document
     pub loaded : IsDocumentOf o T document
     pub lacks : value_under rule name key document ≡ None
+
+  -- its document has no section of the name
+  pub record LacksNamed (name : Text) : Type 0 where
+    pub document : Document
+    pub loaded : IsDocumentOf o T document
+    pub lacks : has_named rule name document ≡ false
 
   -- the text U is T with the key set under the rule; where it is there; with a pair added; and without all
   -- pairs of the key that are looked at
@@ -52,6 +60,15 @@ module _ (rule : Lookup) (o : ParseOption) (T : Text) where
       IsEditedText o T U (λ p q. AreDeletedUnder rule name key o p.sections q.sections)
       (delete_under rule name key)
 
+  -- the text U is T without the sections of the name that are looked at; and T in which they are renamed
+  abbrev pub IsSectionDeletedTextUnder : (name : Text) → Text → Type 0
+  IsSectionDeletedTextUnder name U =
+      IsEditedText o T U (AreSectionsDeleted rule name) (sections_removed rule name)
+
+  abbrev pub IsNameRenamedTextUnder : EscapePolicy → (old new : Text) → Text → Type 0
+  IsNameRenamedTextUnder policy old new U =
+      IsEditedText o T U (AreSectionsRenamed rule policy old new) (sections_renamed rule old new)
+
   -- what these are refused with
   abbrev pub RefusesToSetTextUnder : WriteOption → Option Text → (key value : Text) → EditError → Type 0
   RefusesToSetTextUnder w name key value =
@@ -64,15 +81,19 @@ module _ (rule : Lookup) (o : ParseOption) (T : Text) where
   abbrev pub HasNothingUnder : Editing → Type 0
   HasNothingUnder (SetExisting name key value) = LacksUnder name key
   HasNothingUnder (Delete name key) = LacksUnder name key
+  HasNothingUnder (DeleteSection name) = LacksNamed name
+  HasNothingUnder (RenameSection old new) = LacksNamed old
   HasNothingUnder e = HasNothing o e T
 
   module _ (w : WriteOption) where
-    -- the text U is T with the edit made in it; an edit of a section, or of a key's own word, knows no rule
+    -- the text U is T with the edit made in it; that of a key's own word knows no rule
     abbrev pub IsMadeUnder : Editing → Text → Type 0
     IsMadeUnder (Set name key value) U = IsSetTextUnder w name key value U
     IsMadeUnder (SetExisting name key value) U = IsSetThereTextUnder w.escape_policy name key value U
     IsMadeUnder (Add name key value) U = IsAddedTextUnder w name key value U
     IsMadeUnder (Delete name key) U = IsDeletedTextUnder name key U
+    IsMadeUnder (DeleteSection name) U = IsSectionDeletedTextUnder name U
+    IsMadeUnder (RenameSection old new) U = IsNameRenamedTextUnder w.escape_policy old new U
     IsMadeUnder e U = IsMadeText o w e T U
 
     -- what the edit is refused with
@@ -82,4 +103,7 @@ module _ (rule : Lookup) (o : ParseOption) (T : Text) where
         RefusesInText o T (λ p. RefusesValue o w.escape_policy value) e
     RefusesMadeUnder (Add name key value) e = RefusesToAddTextUnder w name key value e
     RefusesMadeUnder (Delete name key) e = RefusesInText o T (λ p. IsMemoryRefusal) e
+    RefusesMadeUnder (DeleteSection name) e = RefusesInText o T (λ p. IsMemoryRefusal) e
+    RefusesMadeUnder (RenameSection old new) e =
+        RefusesInText o T (λ p. RefusesName o w.escape_policy new) e
     RefusesMadeUnder edit e = RefusesOfText o w edit T e

@@ -321,7 +321,7 @@ fn append_section(
 }
 
 // The name, copied.
-fn owned_name(alloc: Global, name: Option<&str>) -> Result<SectionKey, AllocError>
+pub(crate) fn owned_name(alloc: Global, name: Option<&str>) -> Result<SectionKey, AllocError>
     ensures { IfOk result (λ copy. name_of copy ≡ str_name name.entry) }
 {
     match name {

@@ -6,7 +6,7 @@ ghost use Rattle.ini_dialect.specs.EncodingLaws.{BeginsWithMark, ChangesInside};
 ghost use Rattle.ini_dialect.specs.EncodingNames.{marked};
 ghost use Rattle.ini_dialect.specs.Encodings.{IsDecoded, IsMalformedAt, IsUnencodableAt, encoded};
 ghost use Rattle.ini_dialect.specs.LookupLaws.{AnswersAsCrate, AnswersNothing, AnswersSet};
-ghost use Rattle.ini_dialect.specs.LookupLaws.{KeepsOtherLookups};
+ghost use Rattle.ini_dialect.specs.LookupLaws.{KeepsOtherLookups, KeepsOtherSections, LosesSections};
 ghost use Rattle.ini_dialect.specs.Lookups.{delete_under, set_under};
 ghost use Rattle.ini_dialect.specs.Rules.{default_lookup};
 ghost use Rattle.ini_dialect.specs.declared.encoding.Encoding.{Encoding};
@@ -26,6 +26,13 @@ pub fn deleted_is_gone()
     ensures gone { (rule : Lookup) (name : Option Text) (key : Text) → AnswersNothing rule name key }
     ensures others { (rule : Lookup) (name : Option Text) (key : Text)
         → KeepsOtherLookups rule name key (delete_under rule name key) }
+{}
+
+/// After the sections of a name are taken out a look-up there answers nothing, where sections are joined; by
+/// each name that doesn't fit it answers what it answered.
+pub fn deleted_sections_are_gone()
+    ensures gone { (rule : Lookup) (name : Text) → LosesSections rule name }
+    ensures others { (rule : Lookup) (name : Text) → KeepsOtherSections rule name }
 {}
 
 /// By the default rule a look-up answers what `get_from`, `get_all`, `sections` and a walk over the first

@@ -16,6 +16,7 @@ mod number;
 mod presets;
 mod rule;
 mod ruled_text;
+mod section_edit;
 mod source;
 mod typed;
 mod walk;

@@ -6,9 +6,11 @@ ghost use Rattle.ini_text.specs.Parsing.Items.{string_text};
 ghost use Rattle.ini_edit.specs.Editings.{editing_of};
 ghost use Rattle.ini_edit.specs.SourceEditsSet.{IsMemoryRefusal};
 ghost use Rattle.ini_dialect.specs.RuledTexts.{HasNothingUnder, IsAddedTextUnder, IsDeletedTextUnder};
-ghost use Rattle.ini_dialect.specs.RuledTexts.{IsMadeUnder, IsSetTextUnder, IsSetThereTextUnder, LacksUnder};
+ghost use Rattle.ini_dialect.specs.RuledTexts.{IsMadeUnder, IsNameRenamedTextUnder, IsSectionDeletedTextUnder};
+ghost use Rattle.ini_dialect.specs.RuledTexts.{IsSetTextUnder, IsSetThereTextUnder, LacksNamed, LacksUnder};
 ghost use Rattle.ini_dialect.specs.RuledTexts.{RefusesInText, RefusesMadeUnder, RefusesToAddTextUnder};
 ghost use Rattle.ini_dialect.specs.RuledTexts.{RefusesToSetTextUnder};
+ghost use Rattle.ini_dialect.specs.SectionEdits.{RefusesName};
 ghost use Rattle.ini_dialect.specs.SourceLookups.{RefusesValue};
 
 use crate::rule::Lookup;
@@ -19,7 +21,8 @@ use std::alloc::Global;
 impl Lookup {
     /// The text with the edit made in it under the rule: the pair that counts is set, a new pair goes where
     /// it counts, all pairs of the key that are looked at are taken out. `None` where there is no such pair.
-    /// An edit of a section, and another key for a pair, are those of `ini_edit`'s `make_edit`.
+    /// All sections of a name that are looked at are taken out, or renamed. Another key for a pair is that of
+    /// `ini_edit`'s `make_edit`.
     ///
     /// # Errors
     ///
@@ -53,8 +56,11 @@ impl Lookup {
             }
             Edit::Delete { name, key } => self.delete_in_text(alloc, text, read, name, key),
             Edit::RenameKey { .. } => make_edit(alloc, text, read, write, edit),
-            Edit::DeleteSection { .. } => make_edit(alloc, text, read, write, edit),
-            Edit::RenameSection { .. } => make_edit(alloc, text, read, write, edit),
+            Edit::DeleteSection { name } => self.delete_section_in_text(alloc, text, read, name),
+            Edit::RenameSection { old, new } => {
+                let policy = write.escape_policy;
+                self.rename_section_in_text(alloc, text, read, policy, old, new)
+            }
         }
     }
 
@@ -142,6 +148,52 @@ impl Lookup {
     {
         let mut source = Source::read(alloc, text, read)?;
         if self.delete_in_source(alloc, &mut source, name, key)? {
+            return Ok(Some(source.to_text(alloc)?));
+        }
+        Ok(None)
+    }
+
+    // The text without the sections that `delete_section_in_source` takes out; `None` where there is none.
+    fn delete_section_in_text(
+        self,
+        alloc: Global,
+        text: &str,
+        read: ParseOption,
+        name: &str,
+    ) -> Result<Option<String>, EditError>
+        ensures deleted { IfOk result (λ deleted. MatchOption deleted
+            (LacksNamed self read (chars text.now) (chars name.now))
+            (λ new. IsSectionDeletedTextUnder self read (chars text.now) (chars name.now)
+            (string_text new))) }
+        ensures refused { IfErr result (RefusesInText read (chars text.now) (λ p. IsMemoryRefusal)) }
+    {
+        let mut source = Source::read(alloc, text, read)?;
+        if self.delete_section_in_source(alloc, &mut source, name)? {
+            return Ok(Some(source.to_text(alloc)?));
+        }
+        Ok(None)
+    }
+
+    // The text in which the sections have the name that `rename_section_in_source` gives them; `None` where
+    // there is none.
+    fn rename_section_in_text(
+        self,
+        alloc: Global,
+        text: &str,
+        read: ParseOption,
+        policy: EscapePolicy,
+        old: &str,
+        new: &str,
+    ) -> Result<Option<String>, EditError>
+        ensures renamed { IfOk result (λ renamed. MatchOption renamed
+            (LacksNamed self read (chars text.now) (chars old.now))
+            (λ made. IsNameRenamedTextUnder self read (chars text.now) policy (chars old.now)
+            (chars new.now) (string_text made))) }
+        ensures refused { IfErr result (RefusesInText read (chars text.now)
+            (λ p. RefusesName read policy (chars new.now))) }
+    {
+        let mut source = Source::read(alloc, text, read)?;
+        if self.rename_section_in_source(alloc, policy, &mut source, old, new)? {
             return Ok(Some(source.to_text(alloc)?));
         }
         Ok(None)

@@ -29,7 +29,7 @@ all_put : {o : ParseOption} {w : WriteOption} {name : Option Text} {key : Text} 
 all_put ArePut.nothing_put = refl
 all_put (ArePut.put_then put more) = all_put more ∙ put_option put
 
-added_pair : {rule : Lookup} {o : ParseOption} {w : WriteOption} {name : Option Text} {key value : Text}
+pub added_pair : {rule : Lookup} {o : ParseOption} {w : WriteOption} {name : Option Text} {key value : Text}
     {p q : Pieces} → AddsPair rule name key o w p q value → q.option ≡ p.option
 added_pair (AddsPair.in_section takes added) = added.option
 added_pair (AddsPair.in_new_section lacks added) = added.option

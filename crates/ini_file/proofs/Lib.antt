@@ -12,6 +12,7 @@ pub mod MergeLemmas
 pub mod OriginLemmas
 pub mod PlacedLemmas
 pub mod RefusedLemmas
+pub mod RuledMergeLemmas
 pub mod ShareLemmas
 pub mod SplitLemmas
 pub mod SuggestLemmas

@@ -66,8 +66,10 @@ module _ (rule : Lookup) (o : ParseOption) (w : WriteOption) (T : Text) where
   no_text_under (Editing.Delete name key) (RefusesInText.reading h) = h
   no_text_under (Editing.Delete name key) (RefusesInText.pieces r) = r.refused
   no_text_under (Editing.RenameKey name old new) h = h
-  no_text_under (Editing.DeleteSection name) h = h
-  no_text_under (Editing.RenameSection old new) h = h
+  no_text_under (Editing.DeleteSection name) (RefusesInText.reading h) = h
+  no_text_under (Editing.DeleteSection name) (RefusesInText.pieces r) = r.refused
+  no_text_under (Editing.RenameSection old new) (RefusesInText.reading h) = h
+  no_text_under (Editing.RenameSection old new) (RefusesInText.pieces r) = r.refused
 
 pub no_text_by : (own : Bool) (rule : Lookup) (o : ParseOption) (w : WriteOption) (T : Text) (e : Editing)
     → RefusesMadeBy own rule o w e T (TextError NotUtf8) → ⊥

@@ -38,6 +38,7 @@ pub mod Remade
 pub mod Reports
 pub mod Requests
 pub mod RuledLayers
+pub mod RuledMerges
 pub mod Runs
 pub mod Settings
 pub mod Shells

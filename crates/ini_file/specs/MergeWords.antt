@@ -1,5 +1,6 @@
 -- Which words are a merge, and of which files.
 use Rattle.std.specs.Prelude.{List, [], ◌∷◌, map, Option, None, Some, string_bytes}
+use Rattle.ini_dialect.specs.declared.rule.Lookup.{Lookup}
 use Rattle.ini_words.specs.Words.{Word}
 use Rattle.ini_words.specs.declared.options.Options.{Options}
 use Rattle.ini_file.specs.Choices.{Chosen, chosen_of}
@@ -8,24 +9,26 @@ use Rattle.ini_file.specs.declared.merge_words.Merging.{Merging}
 
 -- the file in which is set what the others set, one at least
 pub record Merged : Type 0 where
+  pub rule : Lookup
   pub options : Options
   pub choices : Chosen
   pub file : Word
   pub others : List Word
 
 -- what is merged, where words name the files; None where they name less than two
-abbrev pub files_merged : Options → Chosen → List Word → Option Merged
-files_merged o c [] = None
-files_merged o c (file ∷ []) = None
-files_merged o c (file ∷ other ∷ others) =
-    Some (record { options = o; choices = c; file = file; others = other ∷ others })
+abbrev pub files_merged : Lookup → Options → Chosen → List Word → Option Merged
+files_merged rule o c [] = None
+files_merged rule o c (file ∷ []) = None
+files_merged rule o c (file ∷ other ∷ others) =
+    Some (record { rule = rule; options = o; choices = c; file = file; others = other ∷ others })
 
 abbrev pub merge_asked : Called → Option Merged
-merge_asked c = files_merged c.options c.choices c.words
+merge_asked c = files_merged c.dialect.lookup c.options c.choices c.words
 
 -- the merge that is kept as borrowed words
 abbrev pub merging_of : Merging → Merged
 merging_of m = record {
+  rule = m.rule;
   options = m.options;
   choices = chosen_of m.choices;
   file = m.file.now;

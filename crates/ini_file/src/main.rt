@@ -66,6 +66,7 @@ mod report_format;
 mod reported;
 mod rights;
 mod ruled_layers;
+mod ruled_merge;
 mod run;
 mod sarif;
 mod save;

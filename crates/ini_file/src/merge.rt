@@ -7,9 +7,10 @@ ghost use Rattle.ini_file.specs.Merges.{bytes_of};
 
 use crate::bytes::{concat, text_of};
 use crate::edit::gets_byte_order_mark;
-use crate::settings::settings_of;
+use crate::ruled_merge::{settings_by, with_settings};
 use ini::{Error, Ini, ParseOption};
-use ini_edit::{RefusedEdit, make_edits};
+use ini_dialect::Lookup;
+use ini_edit::RefusedEdit;
 use ini_layers::{Layers, NoLayer};
 use ini_words::Options;
 use std::alloc::{AllocError, Global};
@@ -30,19 +31,25 @@ pub enum MergeEnd {
     GetsMark,
 }
 
-/// The file's bytes with what the others set: for each of them in order, each key of the first section of
-/// each name is set to the first value that it has there. A mark (EF BB BF) at the front of any is no part
+/// The file's bytes with what the others set under the rule: for each of them in order, each key in each
+/// section is set to the value that counts there. A mark (EF BB BF) at the front of any is no part
 /// of its text; that of the file stays. All others are read before the file is, which is read too where they
 /// set nothing.
-pub fn merge(alloc: Global, options: Options, input: &[u8], others: &[Vec<u8>]) -> MergeEnd
-    ensures { HasMerge options input.now (bytes_of others.now) result }
+pub fn merge(
+    alloc: Global,
+    rule: Lookup,
+    options: Options,
+    input: &[u8],
+    others: &[Vec<u8>],
+) -> MergeEnd
+    ensures { HasMerge rule options input.now (bytes_of others.now) result }
 {
     let documents = match load_all(alloc, options.reading, others) {
         Ok(documents) => documents,
         Err((index, refusal)) => return MergeEnd::Other(index, refusal),
     };
     match text_of(input) {
-        Ok((front, text)) => merge_text(alloc, options, &documents, front, text),
+        Ok((front, text)) => merge_text(alloc, rule, options, &documents, front, text),
         Err(refused) => MergeEnd::File(refused),
     }
 }
@@ -50,14 +57,15 @@ pub fn merge(alloc: Global, options: Options, input: &[u8], others: &[Vec<u8>]) 
 // What documents set, set in a text after a mark.
 fn merge_text(
     alloc: Global,
+    rule: Lookup,
     options: Options,
     documents: &Layers,
     byte_order_mark: &[u8],
     text: &str,
 ) -> MergeEnd
-    ensures { EndsOnText options documents.now byte_order_mark.now (chars text.now) result }
+    ensures { EndsOnText rule options documents.now byte_order_mark.now (chars text.now) result }
 {
-    let Ok(edits) = settings_of(alloc, documents) else {
+    let Ok(edits) = settings_by(alloc, rule, documents) else {
         return MergeEnd::File(Error::Memory(AllocError));
     };
     if edits.is_empty() {
@@ -66,14 +74,14 @@ fn merge_text(
         }
     }
     let write = options.write_option();
-    let new = match make_edits(alloc, text, options.reading, &write, edits.as_slice()) {
+    let new = match with_settings(alloc, rule, text, options.reading, &write, edits.as_slice()) {
         Ok(new) => new,
         Err(refused) => return MergeEnd::Edit(refused),
     };
-    if gets_byte_order_mark(byte_order_mark, new.text.as_str()) {
+    if gets_byte_order_mark(byte_order_mark, new.as_str()) {
         return MergeEnd::GetsMark;
     }
-    match concat(alloc, byte_order_mark, new.text.as_str()) {
+    match concat(alloc, byte_order_mark, new.as_str()) {
         Ok(bytes) => MergeEnd::Done(bytes),
         Err(refused) => MergeEnd::File(refused),
     }

@@ -8,8 +8,8 @@ use crate::merge_words::Merging;
 use crate::notes::note_reason;
 use crate::reasons::{Help, Reason};
 use crate::refusals::refuse;
+use crate::ruled_merge::settings_by;
 use crate::run::Outcome;
-use crate::settings::settings_of;
 use crate::target::Target;
 use crate::unwritable::reason_of;
 use ini_dialect::Encoding;
@@ -61,7 +61,7 @@ fn merge_read(
 ) -> u8 {
     let (read, file) = (merging.options.reading, merging.file);
     let input = old.unwrap_or(&[]);
-    match merge(rt.alloc(), merging.options, input, others) {
+    match merge(rt.alloc(), merging.rule, merging.options, input, others) {
         MergeEnd::Done(bytes) => {
             let target = Target::of_merging(*merging);
             match write_output(rt, coding, target, old, bytes.as_slice()) {
@@ -119,7 +119,7 @@ fn setting_at(
     let Ok(documents) = load_all(alloc, merging.options.reading, others) else {
         return Err(AllocError);
     };
-    let edits = settings_of(alloc, &documents)?;
+    let edits = settings_by(alloc, merging.rule, &documents)?;
     let file = merging.file;
     let edit = *edits.get(index).ok_or(AllocError)?;
     let reason = reason_of(Some(edit), merging.options, refusal);

@@ -6,11 +6,14 @@ ghost use Rattle.ini_file.specs.MergeWords.{merge_asked, merging_of};
 
 use crate::choices::Choices;
 use crate::front::Call;
+use ini_dialect::Lookup;
 use ini_words::Options;
 
 /// What the words of a merge are.
 #[derive(Clone, Copy)]
 pub struct Merging<'a> {
+    /// How the files' pairs are looked up, and set in the file.
+    pub rule: Lookup,
     /// How the files are read, and the file is written.
     pub options: Options,
     /// The options after the command.
@@ -30,6 +33,7 @@ pub fn merge_of<'a>(call: Call<'a>) -> Option<Merging<'a>>
         return None;
     }
     Some(Merging {
+        rule: call.dialect.lookup,
         options: call.options,
         choices: call.choices,
         file: file.as_str(),

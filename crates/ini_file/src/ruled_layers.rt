@@ -46,7 +46,11 @@ fn all_set(alloc: Global, rule: Lookup, edits: &[Edit<'_>]) -> Result<Ini, Error
 }
 
 // The edits that set what the documents give under the rule.
-fn settings_in(alloc: Global, rule: Lookup, layers: &Layers) -> Result<Vec<Edit<'_>>, AllocError>
+pub(crate) fn settings_in(
+    alloc: Global,
+    rule: Lookup,
+    layers: &Layers,
+) -> Result<Vec<Edit<'_>>, AllocError>
     ensures { IfOk result (λ edits. map editing_of edits.items ≡ settings_in_layers rule layers.now) }
 {
     let mut edits = Vec::new(alloc);

@@ -69,19 +69,21 @@ fn edited(
             key,
             "v",
         )?),
+        "delete_section" => Ok(lookup.delete_section_in_source(alloc, source, name)?),
+        "rename_section" => lookup.rename_section_in_source(alloc, policy, source, name, key),
         _ => Ok(lookup.delete_in_source(alloc, source, Some(name), key)?),
     }
 }
 
-/// A rule, a call, a name, a key, and the text of the pieces afterwards; none where the call finds nothing,
-/// and the text stays.
+/// A rule, a call, a name, a key or a new name, and the text of the pieces afterwards; none where the call
+/// finds nothing, and the text stays.
 const PIECES: [(
     &'static str,
     &'static str,
     &'static str,
     &'static str,
     Option<&'static str>,
-); 13] = [
+); 21] = [
     (
         "ffk",
         "set",
@@ -161,6 +163,44 @@ const PIECES: [(
         Some("# top\n[a]\n# two\n\n[A]\n[a]\n"),
     ),
     ("jlk", "delete", "a", "K", None),
+    (
+        "ffi",
+        "delete_section",
+        "A",
+        "",
+        Some("# top\n[A]\n  K=3\n[a]\nk=4\n"),
+    ),
+    (
+        "jlk",
+        "delete_section",
+        "a",
+        "",
+        Some("# top\n[A]\n  K=3\n"),
+    ),
+    ("jli", "delete_section", "A", "", Some("# top\n")),
+    ("jli", "delete_section", "b", "", None),
+    (
+        "fli",
+        "rename_section",
+        "A",
+        "b",
+        Some("# top\n[b]\nk = 1\n# two\nk=\"2\"\n\n[A]\n  K=3\n[a]\nk=4\n"),
+    ),
+    (
+        "jfi",
+        "rename_section",
+        "a",
+        "b",
+        Some("# top\n[b]\nk = 1\n# two\nk=\"2\"\n\n[b]\n  K=3\n[b]\nk=4\n"),
+    ),
+    (
+        "jli",
+        "rename_section",
+        "a",
+        "A",
+        Some("# top\n[A]\nk = 1\n# two\nk=\"2\"\n\n[A]\n  K=3\n[A]\nk=4\n"),
+    ),
+    ("jli", "rename_section", "b", "a", None),
 ];
 
 /// Makes the edit of the pieces.
@@ -186,7 +226,7 @@ fn expect_edited(
 }
 
 #[test]
-fn one_pair_of_a_text_is_set_and_all_are_deleted(rt: HostRuntime) -> Result<(), Fail> {
+fn one_pair_is_set_and_all_that_are_looked_at_go(rt: HostRuntime) -> Result<(), Fail> {
     for row in PIECES {
         expect_edited(&rt, row)?;
     }
@@ -201,6 +241,7 @@ fn edit_of<'a>(call: &str, key: &'a str) -> Edit<'a> {
         "set_existing" => Edit::SetExisting { name, key, value },
         "add" => Edit::Add { name, key, value },
         "delete" => Edit::Delete { name, key },
+        "delete_section" => Edit::DeleteSection { name: key },
         _ => Edit::RenameSection { old: "a", new: key },
     }
 }
@@ -211,7 +252,7 @@ const TEXTS: [(
     &'static str,
     &'static str,
     Option<&'static str>,
-); 7] = [
+); 9] = [
     (
         "jlk",
         "set",
@@ -242,8 +283,10 @@ const TEXTS: [(
         "jlk",
         "rename_section",
         "b",
-        Some("# top\n[b]\nk = 1\n# two\nk=\"2\"\n\n[A]\n  K=3\n[a]\nk=4\n"),
+        Some("# top\n[b]\nk = 1\n# two\nk=\"2\"\n\n[A]\n  K=3\n[b]\nk=4\n"),
     ),
+    ("jlk", "delete_section", "a", Some("# top\n[A]\n  K=3\n")),
+    ("jlk", "delete_section", "b", None),
 ];
 
 #[test]
@@ -266,6 +309,11 @@ fn a_text_that_reading_refuses_is_not_edited(rt: HostRuntime) {
         Edit::SetExisting { name, key, value },
         Edit::Add { name, key, value },
         Edit::Delete { name, key },
+        Edit::DeleteSection { name: key },
+        Edit::RenameSection {
+            old: key,
+            new: value,
+        },
     ] {
         let made = rule(&rt, "jlk").make_edit(rt.alloc(), "k = 1\n[a\n", read, &write, edit);
         let is_refused = matches!(made, Err(EditError::Text(Error::Parse(_))));

@@ -1,0 +1,23 @@
+use Rattle.std.proofs.lemmas.Result.{err_from_is_err_and}
+use Rattle.ini_edit.proofs.WholeTextRefusalLemmas.{refusal_of}
+use Rattle.ini_dialect.specs.RuledTexts.{RefusesInText}
+use Rattle.ini_dialect.proofs.rule.Lookup.delete_section_in_text.Goals as goal
+
+pub returns-in_err-source-clause-refused : goal.returns-in_err-source-clause-refused
+returns-in_err-source-clause-refused c =
+    let e = err_from_is_err_and c.from_residual.result c.from_residual.ensures.1 in
+    let refused = c.in_err-source.ensures in
+    rw (e.1, e.2)
+    (RefusesInText.reading (refusal_of _ _ c.in_err-source.field-0.0 refused.only refused.fault))
+
+pub returns-in_err-delete_section_in_source-clause-refused : goal.returns-in_err-delete_section_in_source-clause-refused
+returns-in_err-delete_section_in_source-clause-refused c =
+    let r = c.from_residual-in_err-delete_section_in_source in
+    let e = err_from_is_err_and r.result r.ensures.1 in
+    rw (e.1, e.2, c.in_err-delete_section_in_source.ensures.only) (RefusesInText.reading tt)
+
+pub returns-in_err-to_text-clause-refused : goal.returns-in_err-to_text-clause-refused
+returns-in_err-to_text-clause-refused c =
+    let r = c.from_residual-in_err-to_text in
+    let e = err_from_is_err_and r.result r.ensures.1 in
+    rw (e.1, e.2, c.in_err-to_text.ensures.only) (RefusesInText.reading tt)
