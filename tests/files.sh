@@ -209,13 +209,16 @@ editing() {
         comment settings.ini port -s server
     refused 'comment of a key that is not there' 1 '' comment settings.ini port server
     fresh
-    no_comment="ini_file: settings.ini: this pair can't be made a comment: it doesn't begin its line, or isn't the first of its key in the \
-first section of the name"
-    refused 'comment where a later pair counts' 3 "$no_comment" --like php comment settings.ini port server
-    refused 'comment where a later section counts' 3 "$no_comment" --like php comment settings.ini last server
-    edit 'comment under a rule' \
-        '; a server\nname = one\n[server]\nport = 8080\n; host = a\\tb\nport = 9090\n[client]\n[server]\nlast = 1\n' \
-        --like php comment settings.ini host server
+    no_comment="ini_file: settings.ini: this pair can't be made a comment: it doesn't begin its line, or ends it in CR alone"
+    edit 'comment under a rule: the last pair' \
+        '; a server\nname = one\n[server]\nport = 8080\nhost = a\\tb\n; port = 9090\n[client]\n[server]\nlast = 1\n' \
+        --like php comment settings.ini port server
+    edit 'comment under a rule: in a later section' \
+        '; a server\nname = one\n[server]\nport = 8080\nhost = a\\tb\n; port = 9090\n[client]\n[server]\n; last = 1\n' \
+        --like php comment settings.ini last server
+    refused 'comment under a rule of a key that is not there' 1 '' --like php comment settings.ini last client
+    printf 'k=1\rj=2\n' >settings.ini
+    refused 'comment of a line that CR ends' 3 "$no_comment" comment settings.ini k
     printf '[a] k = v\n' >settings.ini
     refused 'comment of a pair after a header' 3 "$no_comment" comment settings.ini k a
     case_of 'comment in standard input' 0 'j=1\n; k=2\n' '' comment - k <<END
@@ -408,6 +411,12 @@ renaming() {
     edit 'rename-key: blanks, the value and line ends stay' '# c\r\n  a\\=b\t=  "v" \r\n' \
         --policy Reserved rename-key settings.ini old a=b
     refused 'rename-key of a key that is not there' 1 '' rename-key settings.ini other x
+    printf '[a]\n# one\nk = 1\nK=2\n[A]\n\tk = "3"\n[b]\nk = 4\n' >settings.ini
+    edit 'rename-key under a rule: each pair that is looked at' '[a]\n# one\nkey = 1\nkey=2\n[A]\n\tkey = "3"\n[b]\nk = 4\n' \
+        --like git rename-key settings.ini K key A
+    edit 'rename-key under a rule: to other case' '[a]\n# one\nKEY = 1\nKEY=2\n[A]\n\tKEY = "3"\n[b]\nk = 4\n' \
+        --like git rename-key settings.ini key KEY a
+    refused 'rename-key under a rule of a key that is not there' 1 '' --like php rename-key settings.ini key x a
     refused 'rename-key to a key that would not be read back' 2 \
         "ini_file: settings.ini: this key can't be written so that it is read back$edges" rename-key settings.ini other ' x'
     fresh
@@ -1051,6 +1060,8 @@ END
     case_of 'merge: options of reading' 0 "k='v'\n[a]\nk=1\n" '' --noquote merge --output - settings.ini ../quotes.ini
     rm settings.ini
     edit 'merge: options of writing' '[a]\r\nk=1\r\n' --crlf merge settings.ini ../one.ini
+    rm settings.ini
+    edit 'merge: the separator of the dialect' '[a]\nk = 1\n' --like python merge settings.ini ../one.ini
     fresh
     printf '[Server]\nport = 1\nlast = 2\n[client]\nID = 7\n[server]\nport = 3\nnew = 4\n' >../other.ini
     edit 'merge under a rule: the values that count, where they count' \

@@ -178,12 +178,12 @@ if toml_edit_is_built; then
         '< [paths]\n< log   = 1\n< # the cache\n< cache = 2'
 fi
 
-# What small texts say to the programs of four dialects; GKeyFile is read by a program in C.
+# What small texts say to the programs of five dialects; GKeyFile is read by a program in C.
 small_texts() {
     run "$1: values of small texts, and edits" python3 "$top/tests/program/dialects.py" "$program" "$@"
 }
 
-for name in git python3 php; do
+for name in git python3 php crudini; do
     if peer "$name" && has python3 "what is compared with $name"; then
         small_texts "${name%3}"
     fi
@@ -196,6 +196,7 @@ if has cc 'what is compared with GKeyFile' && has pkg-config 'what is compared w
         echo "skipped: what is compared with GKeyFile, since glib-2.0 isn't there"
     fi
 fi
+echo "skipped: what is compared with systemd, since it tells of no file what it reads there, but of units that run"
 
 . "$top/tests/peers/merges.sh"
 

@@ -1,11 +1,11 @@
-"""Asks ini_file and the programs of four dialects what small texts say.
+"""Asks ini_file and the programs of five dialects what small texts say.
 
     dialects.py INI_FILE NAME [READER]
 
-NAME is git, which `git config` reads, python, which configparser reads, php, which php reads, or desktop, which GLib's GKeyFile
-reads by READER, the program of key_file.c. Each value that these find in a text is asked of INI_FILE --like NAME, and each key
-that isn't there. Then each is set by INI_FILE, and deleted, and a key is set that isn't there; each section is deleted, renamed, and
-the target of a merge: the reader finds just that change.
+NAME is git, which `git config` reads, python, which configparser reads, php, which php reads, desktop, which GLib's GKeyFile
+reads by READER, the program of key_file.c, or crudini, whose files are read like python's. Each value that these find in a text
+is asked of INI_FILE --like NAME, and each key that isn't there. Then each is set by INI_FILE, deleted, and its key renamed, and a key is set that isn't there; each section is
+deleted, renamed, and the target of a merge: the reader finds just that change.
 Each difference is a line, then the number of texts; the status is 1 where there is one.
 """
 import configparser
@@ -155,14 +155,48 @@ DESKTOP = r"""
 [a]\nX-k=1\nk-2=3
 [a]\r\nk=1\r\n
 """
-TEXTS = {"git": GIT, "python": PYTHON, "php": PHP, "desktop": DESKTOP}[NAME]
+# crudini tells keys of other case apart, and ends a value before a semicolon behind a blank.
+CRUDINI = r"""
+[a]\nk=v
+[a]\nk = v\n
+[a]\nk: v
+[a]\nK = v
+[a]\nk = 1\nk = 2
+[a]\nk = 1\nj = 2
+[a]\nk = 1\n[a]\nk = 2
+[a]\nk = 1\n[b]\nk = 3\n[a]\nj = 2
+[a]\nk = "x"
+[a]\nk = 'x y'
+[a]\nk = C:\\dir\\x
+[a]\nk = x y  z
+[a]\nk = v = w
+[a]\nk = v : w
+[a]\nk = a # b
+[a]\nk = a;b
+[a]\n; k = 1\nk = 2
+[a]\n#k = 1\nk = 2
+# c\n[a]\nk = 1\n# d\n
+\n[a]\n\nk = 1\n\nj = 2\n
+[a b]\nk = 1
+[a:b]\nk = 1
+[a]\nk = é
+[a]\nk = [x]
+[a]\nk = %(x)s
+[a]\nk = 1\n[b]\n[c]\nk = 2
+[api]\nport = 8774\nhost = 0.0.0.0\n[database]\nconnection = mysql+pymysql://u:p@h/n
+[keystone_authtoken]\nauth_url = http://c:5000/v3\nproject_domain_name = Default
+[a]\r\nk = 1\r\n
+[a]\nk\t=\tv
+"""
+TEXTS = {"git": GIT, "python": PYTHON, "php": PHP, "desktop": DESKTOP, "crudini": CRUDINI}[NAME]
+LIKE = "python" if NAME == "crudini" else NAME
 # Whether the case of a key is no matter.
 ANY_CASE = NAME in ("git", "python")
 
 
 def told(*words):
     """The status and the value that the program writes, without its line end."""
-    ran = subprocess.run([PROGRAM, "--like", NAME, *words], capture_output=True)
+    ran = subprocess.run([PROGRAM, "--like", LIKE, *words], capture_output=True)
     return ran.returncode, ran.stdout.decode()[:-1]
 
 
@@ -187,6 +221,16 @@ def python(text):
             yield section, key, parser[section][key].lstrip("\n")
 
 
+def crudini(text):
+    """Each section, key and value that crudini lists in lines."""
+    pathlib.Path("x").write_bytes(text.encode())
+    lines = subprocess.run(["crudini", "--get", "--format=lines", "x"], capture_output=True, check=True).stdout.decode()
+    for line in lines.split("\n"):
+        section, is_pair, pair = line.removeprefix("[ ").partition(" ] ")
+        if is_pair:
+            yield (section, *pair.split(" = ", 1))
+
+
 def listed(*command):
     """Each section, key and value that a command writes of a text, with a NUL after each."""
     def values_of(text):
@@ -196,7 +240,8 @@ def listed(*command):
     return values_of
 
 
-READERS = {"git": git, "python": python, "php": listed("php", HERE / "reader.php"), "desktop": listed(*READER)}
+READERS = {"git": git, "python": python, "crudini": crudini, "php": listed("php", HERE / "reader.php"),
+           "desktop": listed(*READER)}
 
 
 def edited(text, words, wanted):
@@ -223,7 +268,10 @@ def count_edits(text):
     for at in old:
         section, key = at
         wrong += not edited(text, ("set", key.upper() if ANY_CASE else key, "v2", section), old | {at: "v2"})
-        wrong += not edited(text, ("delete", key, section), {other: old[other] for other in old if other != at})
+        others = {other: old[other] for other in old if other != at}
+        wrong += not edited(text, ("delete", key, section), others)
+        asked = key.upper() if ANY_CASE else key
+        wrong += not edited(text, ("rename-key", asked, "renamed", section), others | {(section, "renamed"): old[at]})
     for section in {section for section, _ in old}:
         wrong += not edited(text, ("set", "new", "v2", section), old | {(section, "new"): "v2"})
         named = section.upper() if ANY_CASE else section

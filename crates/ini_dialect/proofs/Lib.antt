@@ -5,6 +5,8 @@ pub mod DeletedUnderLemmas
 pub mod EditLemmas
 pub mod EncodingLemmas
 pub mod GuessLemmas
+pub mod KeyEditLemmas
+pub mod KeyLawLemmas
 pub mod KeyLemmas
 pub mod LetterLemmas
 pub mod LookupLawLemmas

@@ -1,5 +1,5 @@
 -- The laws of edits under a rule: the look-up finds what was set, and all others what they found.
-use Rattle.std.proofs.Common.{◌≡◌, ◌∙◌, Bool, true, false, ◌&&◌, cond, List, [], ◌∷◌, ◌++◌, Option, None}
+use Rattle.std.proofs.Common.{◌≡◌, ◌∙◌, Bool, true, false, ◌&&◌, cond, [], ◌∷◌, ◌++◌, Option, None}
 use Rattle.std.proofs.Common.{Some, ap, arith, inl, inr, refl, sym}
 use Rattle.std.proofs.Common.{append-nil}
 use Rattle.std.proofs.lemmas.Bool.{cases_Bool, false≢true}
@@ -191,13 +191,13 @@ module _ (rule : Lookup) (name : Option Text) (key : Text) (n : Option Text) (k 
   same_name m one other =
       (names_equiv rule.case).congr n m name other ∙ (names_equiv rule.case).symm m name ∙ one
 
-  other_key : (m : Option Text) → name_fits rule.case name m ≡ true → named_n m ≡ true
+  pub other_key : (m : Option Text) → name_fits rule.case name m ≡ true → named_n m ≡ true
       → text_fits rule.case k key ≡ false
   other_key m one other =
       let same = same_name m one other in
       rw same at apart
 
-  keys_apart : text_fits rule.case k key ≡ false → (j : Text) → text_fits rule.case key j ≡ true
+  pub keys_apart : text_fits rule.case k key ≡ false → (j : Text) → text_fits rule.case key j ≡ true
       → test_k j ≡ false
   keys_apart away j fits =
       (texts_equiv rule.case).symm k j

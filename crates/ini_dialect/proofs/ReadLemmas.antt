@@ -1,7 +1,7 @@
 -- A look-up that walks from the end that counts answers the value that counts.
-use Rattle.std.proofs.Common.{◌≡◌, ◌∙◌, Bool, true, false, cond, List, [], ◌∷◌, ◌++◌, reverse, Option, None}
+use Rattle.std.proofs.Common.{◌≡◌, ◌∙◌, Bool, cond, List, [], ◌∷◌, ◌++◌, reverse, Option, None}
 use Rattle.std.proofs.Common.{Some}
-use Rattle.std.proofs.Common.{ap, arith, fold, map, refl, sym}
+use Rattle.std.proofs.Common.{ap, arith, fold, refl, sym}
 use Rattle.std.proofs.lemmas.Grind.{fold-append, reverse_onto}
 use Rattle.std.specs.List.{last_or}
 use Rattle.std.specs.Map.{lookup}

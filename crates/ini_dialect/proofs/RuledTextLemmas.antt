@@ -6,19 +6,21 @@ use Rattle.ini_text.specs.declared.option.ParseOption.{ParseOption}
 use Rattle.ini_text.specs.declared.write.option.WriteOption.{WriteOption}
 use Rattle.ini_text.specs.declared.write.policy.EscapePolicy.{EscapePolicy}
 use Rattle.ini.specs.Texts.{Text}
-use Rattle.ini_edit.specs.Edited.{IsNameOrMemory}
+use Rattle.ini_edit.specs.Edited.{IsKeyOrMemory, IsNameOrMemory}
+use Rattle.ini_edit.specs.Renamed.{IsPlainBareKey}
 use Rattle.ini_edit.specs.Sources.{Pieces}
 use Rattle.ini_edit.specs.WholeTexts.{IsReadInPieces}
 use Rattle.ini_edit.specs.declared.error.EditError.{EditError}
 use Rattle.ini_edit.specs.declared.error.EditError.TheVariants.{Key, Name, NoPlace, Separator, Value}
 use Rattle.ini_edit.specs.declared.error.EditError.TheVariants.{Text as TextError}
+use Rattle.ini_dialect.specs.KeyEdits.{RefusesKey}
 use Rattle.ini_dialect.specs.RuledTexts.{RefusesInText, RefusesToAddTextUnder, RefusesToSetTextUnder}
 use Rattle.ini_dialect.specs.SectionEdits.{RefusesName}
 use Rattle.ini_dialect.specs.SourceLookups.{RefusesToPutUnder, RefusesUnder, RefusesValue}
 use Rattle.ini_dialect.specs.declared.rule.Lookup.{Lookup}
 
 -- what renaming is refused with
-refuses_name : (o : ParseOption) (policy : EscapePolicy) (name : Text) (e : EditError) → IsNameOrMemory e
+pub refuses_name : (o : ParseOption) (policy : EscapePolicy) (name : Text) (e : EditError) → IsNameOrMemory e
     → (e ≡ Name → ¬ IsPlainName o policy name) → RefusesName o policy name e
 refuses_name o policy name Name only plain = plain refl
 refuses_name o policy name (TextError (Memory m)) only plain = tt
@@ -30,6 +32,19 @@ refuses_name o policy name Key only plain = absurd only
 refuses_name o policy name Value only plain = absurd only
 refuses_name o policy name Separator only plain = absurd only
 refuses_name o policy name NoPlace only plain = absurd only
+
+refuses_key : (o : ParseOption) (policy : EscapePolicy) (key : Text) (e : EditError) → IsKeyOrMemory e
+    → (e ≡ Key → ¬ IsPlainBareKey o policy key) → RefusesKey o policy key e
+refuses_key o policy key Key only plain = plain refl
+refuses_key o policy key (TextError (Memory m)) only plain = tt
+refuses_key o policy key (TextError (Io e)) only plain = absurd only
+refuses_key o policy key (TextError (Parse e)) only plain = absurd only
+refuses_key o policy key (TextError NotUtf8) only plain = absurd only
+refuses_key o policy key (TextError NoProgress) only plain = absurd only
+refuses_key o policy key Name only plain = absurd only
+refuses_key o policy key Value only plain = absurd only
+refuses_key o policy key Separator only plain = absurd only
+refuses_key o policy key NoPlace only plain = absurd only
 
 module _ {o : ParseOption} {T : Text} {p : Pieces} (read : IsReadInPieces o T p) where
   pieces_refused : (refuses : ParseOption → Pieces → EditError → Type 0) {e : EditError}
@@ -49,6 +64,11 @@ module _ {o : ParseOption} {T : Text} {p : Pieces} (read : IsReadInPieces o T p)
       → (e ≡ Name → ¬ IsPlainName p.option policy name) → RefusesInText o T (λ q. RefusesName o policy name) e
   name_refused policy name e only plain =
       pieces_refused (λ x q. RefusesName x policy name) (refuses_name p.option policy name e only plain)
+
+  pub key_refused : (policy : EscapePolicy) (key : Text) (e : EditError) → IsKeyOrMemory e
+      → (e ≡ Key → ¬ IsPlainBareKey p.option policy key) → RefusesInText o T (λ q. RefusesKey o policy key) e
+  key_refused policy key e only plain =
+      pieces_refused (λ x q. RefusesKey x policy key) (refuses_key p.option policy key e only plain)
 
   module _ {rule : Lookup} {name : Option Text} {key : Text} {w : WriteOption} {value : Text}
       {e : EditError} where

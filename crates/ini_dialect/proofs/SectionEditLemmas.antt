@@ -1,6 +1,7 @@
 -- Sections under a rule taken out of a text in pieces, or renamed, one after another.
 use Rattle.std.proofs.Common.{◌≡◌, ◌∙◌, ◌<◌, ℕ, Bool, true, false, ◌||◌, cond, List, [], ◌∷◌, None}
-use Rattle.std.proofs.Common.{Err, IfOk, Ok, Option, Result, Some, String, ap, arith, inl, inr, length, map, refl, subst, sym}
+use Rattle.std.proofs.Common.{Err, IfOk, Ok, Option, Result, Some, String, ap, arith, inl, inr, length}
+use Rattle.std.proofs.Common.{map, refl, subst, sym}
 use Rattle.std.proofs.lemmas.Bool.{cases_Bool, false≢true}
 use Rattle.std.specs.List.{list_any}
 use Rattle.std.specs.Map.{remove_entry}

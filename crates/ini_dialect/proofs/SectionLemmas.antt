@@ -1,14 +1,13 @@
 -- The values of a key in the sections that are looked at, once sections were edited.
-use Rattle.std.proofs.Common.{◌≡◌, ◌∙◌, Bool, true, false, ◌&&◌, cond, List, [], ◌∷◌, ◌++◌, map, Option}
-use Rattle.std.proofs.Common.{Some, ap, arith, refl, sym}
+use Rattle.std.proofs.Common.{◌≡◌, Bool, true, false, cond, List, [], ◌∷◌, ◌++◌, map, Option}
+use Rattle.std.proofs.Common.{arith, refl}
 use Rattle.std.proofs.Common.{append-nil}
-use Rattle.std.proofs.lemmas.Bool.{false≢true}
-use Rattle.std.specs.List.{last_or, list_any}
+use Rattle.std.specs.List.{list_any}
 use Rattle.ini_multimap.specs.Pairs.{values_at}
 use Rattle.ini.specs.Texts.{Text}
 use Rattle.ini.specs.Properties.{Pairs}
 use Rattle.ini.specs.Documents.{Document}
-use Rattle.ini_dialect.specs.Lookups.{all_values, at_counting, at_first, at_last, counting, joined, looked}
+use Rattle.ini_dialect.specs.Lookups.{all_values, at_counting, at_first, at_last, joined, looked}
 use Rattle.ini_dialect.specs.Lookups.{name_fits, text_fits}
 use Rattle.ini_dialect.specs.declared.rule.Lookup.{Lookup}
 use Rattle.ini_dialect.specs.declared.rule.SectionRule.{SectionRule}

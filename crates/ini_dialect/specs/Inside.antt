@@ -7,7 +7,7 @@ use Rattle.std.specs.Option.{option_or}
 use Rattle.ini.specs.Texts.{Text}
 use Rattle.ini.specs.Documents.{Document}
 use Rattle.ini_edit.specs.SourceEdits.{first_fitting}
-use Rattle.ini_edit.specs.SourceEditsAt.{at_index}
+use Rattle.ini_edit.specs.SourceEditsAt.{at_index, at_section}
 use Rattle.ini_edit.specs.Sources.{SectionPiece}
 use Rattle.ini_dialect.specs.Lookups.{name_fits, set_under, text_fits, with_value}
 use Rattle.ini_dialect.specs.SectionEdits.{IsFirstNamed}
@@ -16,6 +16,7 @@ use Rattle.ini_dialect.specs.declared.rule.SectionRule.{SectionRule}
 use Rattle.ini_dialect.specs.declared.rule.SectionRule.TheVariants.{First as FirstSection, Joined}
 use Rattle.ini_dialect.specs.declared.rule.ValueRule.{ValueRule}
 use Rattle.ini_dialect.specs.declared.rule.ValueRule.TheVariants.{First as FirstValue, Last}
+use Rattle.ini_dialect.specs.declared.source.PairNumber.{PairNumber}
 pub mod Coding
 
 -- a list from its front, or from its back
@@ -70,6 +71,12 @@ IsSettingAt rule name key d (Some n) =
     (value : Text) → at_index n (with_value rule key value) d ≡ set_under rule name key value d
 IsSettingAt rule name key d None =
     (value : Text) → d ++ (name, (key, value) ∷ []) ∷ [] ≡ set_under rule name key value d
+
+-- the document in which the pairs of these numbers have another key
+abbrev pub renamed_at : (other : Text) → List PairNumber → Document → Document
+renamed_at other [] d = d
+renamed_at other (at ∷ numbers) d =
+    renamed_at other numbers (at_section at.section (at_index at.pair (λ p. (other, p.1))) d)
 
 -- the first of the sections that passes has this name; or there is none
 abbrev pub IsFirstName : (Option Text → Bool) → List SectionPiece → Option Text → Type 0

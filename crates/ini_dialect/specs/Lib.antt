@@ -4,9 +4,11 @@ pub mod EncodingNames
 pub mod Encodings
 pub mod Guesses
 pub mod Inside
+pub mod KeyEdits
 pub mod LookupLaws
 pub mod Lookups
 pub mod Numbers
+pub mod RuledLayers
 pub mod RuledTexts
 pub mod Rules
 pub mod SectionEdits

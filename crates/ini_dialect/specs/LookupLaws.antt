@@ -1,9 +1,10 @@
 -- What holds of a look-up under a rule: after an edit under the rule, and by the default rule.
-use Rattle.std.specs.Prelude.{◌≡◌, false, ◌&&◌, [], Option, Some, unwrap_or}
+use Rattle.std.specs.Prelude.{◌≡◌, true, false, ◌&&◌, ◌||◌, [], Option, Some, unwrap_or}
 use Rattle.ini.specs.Texts.{Text}
 use Rattle.ini.specs.Properties.{distinct}
 use Rattle.ini.specs.Documents.{Document, first_section, names, value_in}
 use Rattle.ini.specs.EditLaws.{values_in}
+use Rattle.ini_dialect.specs.KeyEdits.{keys_renamed}
 use Rattle.ini_dialect.specs.Lookups.{all_values, delete_under, keys_under, name_fits, names_under}
 use Rattle.ini_dialect.specs.Lookups.{set_under}
 use Rattle.ini_dialect.specs.Lookups.{text_fits, value_under}
@@ -25,6 +26,23 @@ AnswersSet rule name key value = (d : Document)
 abbrev pub AnswersNothing : Lookup → Option Text → Text → Type 0
 AnswersNothing rule name key = (d : Document)
     → all_values rule name key (delete_under rule name key d) ≡ []
+
+-- after the pairs of a key have another one, which doesn't fit it, a look-up by the key answers nothing; by
+-- the other one what it answered by the key, where it answered nothing by the other
+pub record MovesValues (rule : Lookup) (name : Option Text) (key other : Text) : Type 0 where
+  pub lost : text_fits rule.case key other ≡ false → (d : Document)
+      → all_values rule name key (keys_renamed rule name key other d) ≡ []
+  pub moved : (d : Document) → all_values rule name other d ≡ []
+      → all_values rule name other (keys_renamed rule name key other d) ≡ all_values rule name key d
+  -- where it fits the key, as in other case, every look-up answers what it answered
+  pub same : text_fits rule.case key other ≡ true → (n : Option Text) (k : Text) (d : Document)
+      → all_values rule n k (keys_renamed rule name key other d) ≡ all_values rule n k d
+
+-- and by another name, or a key that fits neither, what it answered
+abbrev pub KeepsUnrenamed : Lookup → Option Text → (key other : Text) → Type 0
+KeepsUnrenamed rule name key other = (n : Option Text) (k : Text) (d : Document)
+    → (name_fits rule.case n name && (text_fits rule.case k key || text_fits rule.case k other)) ≡ false
+    → all_values rule n k (keys_renamed rule name key other d) ≡ all_values rule n k d
 
 -- after the sections of a name are taken out, and they are joined, a look-up there answers nothing
 abbrev pub LosesSections : Lookup → Text → Type 0

@@ -102,6 +102,10 @@ module _ (rule : Lookup) (key : Text) where
   abbrev pub cleared : Option Text × Pairs → Option Text × Pairs
   cleared s = (s.0, without (text_fits rule.case key) s.1)
 
+-- a section of the name is there
+abbrev pub has_section : CaseRule → Option Text → Document → Bool
+has_section case name d = list_any (λ s. name_fits case name s.0) d
+
 -- the section is one of the name
 abbrev pub is_named : Lookup → Option Text → Option Text × Pairs → Bool
 is_named rule name s = name_fits rule.case name s.0

@@ -1,6 +1,6 @@
 -- What an edit makes of a whole text under a rule: the text is read in pieces, these are edited, and written
 -- again.
-use Rattle.std.specs.Prelude.{◌≡◌, false, Option, None}
+use Rattle.std.specs.Prelude.{◌≡◌, ⊤, false, Option, None}
 use Rattle.ini_text.specs.declared.error.Error.{Error}
 use Rattle.ini_text.specs.declared.option.ParseOption.{ParseOption}
 use Rattle.ini_text.specs.declared.write.option.WriteOption.{WriteOption}
@@ -8,13 +8,15 @@ use Rattle.ini_text.specs.declared.write.policy.EscapePolicy.{EscapePolicy}
 use Rattle.ini.specs.Documents.{Document}
 use Rattle.ini.specs.Loading.{IsDocumentOf}
 use Rattle.ini.specs.Texts.{Text}
-use Rattle.ini_edit.specs.Editings.{Editing, Set, SetExisting, Add, Delete, DeleteSection, RenameSection}
-use Rattle.ini_edit.specs.Made.{HasNothing}
+use Rattle.ini_edit.specs.Editings.{Editing, Set, SetExisting, Add, Delete, DeleteSection, RenameKey}
+use Rattle.ini_edit.specs.Editings.{RenameSection}
+use Rattle.ini_edit.specs.Made.{HasUnwritableWord}
 use Rattle.ini_edit.specs.SourceEditsSet.{IsMemoryRefusal}
 use Rattle.ini_edit.specs.Sources.{Pieces}
-use Rattle.ini_edit.specs.WholeTexts.{IsEditedText, IsMadeText, IsRefusalOf, RefuseInPieces, RefusesOfText}
+use Rattle.ini_edit.specs.WholeTexts.{IsEditedText, IsRefusalOf, RefuseInPieces}
 use Rattle.ini_edit.specs.declared.error.EditError.{EditError}
 use Rattle.ini_edit.specs.declared.error.EditError.TheVariants.{Text as TextError}
+use Rattle.ini_dialect.specs.KeyEdits.{AreRenamedUnder, RefusesKey, keys_renamed}
 use Rattle.ini_dialect.specs.Lookups.{add_under, delete_under, set_under, value_under}
 use Rattle.ini_dialect.specs.SectionEdits.{AreSectionsDeleted, AreSectionsRenamed, RefusesName, has_named}
 use Rattle.ini_dialect.specs.SectionEdits.{sections_removed, sections_renamed}
@@ -27,6 +29,12 @@ pub data RefusesInText (o : ParseOption) (T : Text) (refuses : Pieces → EditEr
     → Type 0 where
   reading : {e : Error} → IsRefusalOf o T e → RefusesInText o T refuses (TextError e)
   pieces : {e : EditError} → RefuseInPieces o T (λ p. refuses p e) → RefusesInText o T refuses e
+
+-- where a key or a section gets another name, that can be written, whatever the text is
+abbrev pub RenamesWritably : ParseOption → EscapePolicy → Editing → Type 0
+RenamesWritably o policy (RenameKey name old new) = ¬ HasUnwritableWord o policy (RenameKey name old new)
+RenamesWritably o policy (RenameSection old new) = ¬ HasUnwritableWord o policy (RenameSection old new)
+RenamesWritably o policy _ = ⊤
 
 module _ (rule : Lookup) (o : ParseOption) (T : Text) where
   -- the rule finds no value of the key in the text's document
@@ -69,6 +77,11 @@ module _ (rule : Lookup) (o : ParseOption) (T : Text) where
   IsNameRenamedTextUnder policy old new U =
       IsEditedText o T U (AreSectionsRenamed rule policy old new) (sections_renamed rule old new)
 
+  -- and T in which the pairs of the key that are looked at have another one
+  abbrev pub IsKeyRenamedTextUnder : EscapePolicy → Option Text → (old new : Text) → Text → Type 0
+  IsKeyRenamedTextUnder policy name old new U =
+      IsEditedText o T U (AreRenamedUnder rule name old policy new) (keys_renamed rule name old new)
+
   -- what these are refused with
   abbrev pub RefusesToSetTextUnder : WriteOption → Option Text → (key value : Text) → EditError → Type 0
   RefusesToSetTextUnder w name key value =
@@ -79,22 +92,24 @@ module _ (rule : Lookup) (o : ParseOption) (T : Text) where
 
   -- what the edit is about isn't in the text
   abbrev pub HasNothingUnder : Editing → Type 0
+  HasNothingUnder (Set name key value) = ⊥
   HasNothingUnder (SetExisting name key value) = LacksUnder name key
+  HasNothingUnder (Add name key value) = ⊥
   HasNothingUnder (Delete name key) = LacksUnder name key
+  HasNothingUnder (RenameKey name old new) = LacksUnder name old
   HasNothingUnder (DeleteSection name) = LacksNamed name
   HasNothingUnder (RenameSection old new) = LacksNamed old
-  HasNothingUnder e = HasNothing o e T
 
   module _ (w : WriteOption) where
-    -- the text U is T with the edit made in it; that of a key's own word knows no rule
+    -- the text U is T with the edit made in it
     abbrev pub IsMadeUnder : Editing → Text → Type 0
     IsMadeUnder (Set name key value) U = IsSetTextUnder w name key value U
     IsMadeUnder (SetExisting name key value) U = IsSetThereTextUnder w.escape_policy name key value U
     IsMadeUnder (Add name key value) U = IsAddedTextUnder w name key value U
     IsMadeUnder (Delete name key) U = IsDeletedTextUnder name key U
+    IsMadeUnder (RenameKey name old new) U = IsKeyRenamedTextUnder w.escape_policy name old new U
     IsMadeUnder (DeleteSection name) U = IsSectionDeletedTextUnder name U
     IsMadeUnder (RenameSection old new) U = IsNameRenamedTextUnder w.escape_policy old new U
-    IsMadeUnder e U = IsMadeText o w e T U
 
     -- what the edit is refused with
     abbrev pub RefusesMadeUnder : Editing → EditError → Type 0
@@ -103,7 +118,8 @@ module _ (rule : Lookup) (o : ParseOption) (T : Text) where
         RefusesInText o T (λ p. RefusesValue o w.escape_policy value) e
     RefusesMadeUnder (Add name key value) e = RefusesToAddTextUnder w name key value e
     RefusesMadeUnder (Delete name key) e = RefusesInText o T (λ p. IsMemoryRefusal) e
+    RefusesMadeUnder (RenameKey name old new) e =
+        RefusesInText o T (λ p. RefusesKey o w.escape_policy new) e
     RefusesMadeUnder (DeleteSection name) e = RefusesInText o T (λ p. IsMemoryRefusal) e
     RefusesMadeUnder (RenameSection old new) e =
         RefusesInText o T (λ p. RefusesName o w.escape_policy new) e
-    RefusesMadeUnder edit e = RefusesOfText o w edit T e

@@ -1,7 +1,6 @@
 -- Edits under a rule of the sections of a text in pieces: which are taken out or get another name, and the
 -- document afterwards.
 use Rattle.std.specs.Prelude.{◌≡◌, Bool, ◌&&◌, not, if◌then◌else◌, List, map, Option, None, Some}
-use Rattle.std.specs.List.{list_any}
 use Rattle.std.specs.Map.{remove_entry}
 use Rattle.ini_multimap.specs.Pairs.{without}
 use Rattle.ini_text.specs.Laws.Plain.{IsPlainName}
@@ -17,7 +16,7 @@ use Rattle.ini_edit.specs.SourceEditsSet.{IsMemoryRefusal}
 use Rattle.ini_edit.specs.Sources.{Pieces, SectionPiece}
 use Rattle.ini_edit.specs.declared.error.EditError.{EditError}
 use Rattle.ini_edit.specs.declared.error.EditError.TheVariants.{Name}
-use Rattle.ini_dialect.specs.Lookups.{name_fits}
+use Rattle.ini_dialect.specs.Lookups.{has_section, name_fits}
 use Rattle.ini_dialect.specs.declared.rule.CaseRule.{CaseRule}
 use Rattle.ini_dialect.specs.declared.rule.CaseRule.TheVariants.{Kept}
 use Rattle.ini_dialect.specs.declared.rule.Lookup.{Lookup}
@@ -26,7 +25,7 @@ use Rattle.ini_dialect.specs.declared.rule.SectionRule.TheVariants.{First as Fir
 
 -- a section of the name is there
 abbrev pub has_fitting : CaseRule → Text → Document → Bool
-has_fitting case name d = list_any (λ s. name_fits case (Some name) s.0) d
+has_fitting case name d = has_section case (Some name) d
 
 abbrev pub has_named : Lookup → Text → Document → Bool
 has_named rule name d = has_fitting rule.case name d

@@ -1,13 +1,13 @@
 //! Look-ups under a rule. This file knows the walks over sections and pairs, from the front and the back.
-ghost use Rattle.std.specs.Prelude.{◌≡◌, ◌++◌, fold, map, chars, IfOk, OnOk};
+ghost use Rattle.std.specs.Prelude.{◌≡◌, ◌++◌, [], fold, map, chars, IfOk, OnOk, unwrap_or};
 ghost use Rattle.std.specs.List.{list_any};
 ghost use Rattle.std.specs.Map.{lookup};
 ghost use Rattle.std.specs.Option.{option_map};
 ghost use Rattle.ini_multimap.specs.Pairs.{values_at};
 ghost use Rattle.ini.specs.Texts.{str_name, str_text};
 ghost use Rattle.ini_dialect.specs.Inside.{kept, turned, value_in_first, value_in_joined};
-ghost use Rattle.ini_dialect.specs.Lookups.{all_values, keys_under, name_fits, names_under, text_fits};
-ghost use Rattle.ini_dialect.specs.Lookups.{value_under};
+ghost use Rattle.ini_dialect.specs.Lookups.{all_values, has_section, keys_under, name_fits, names_under};
+ghost use Rattle.ini_dialect.specs.Lookups.{text_fits, value_under};
 ghost use Rattle.ini_dialect.specs.Walks.{any_document, any_section};
 
 use crate::rule::{CaseRule, Lookup, SectionRule, ValueRule};
@@ -38,6 +38,18 @@ impl CaseRule {
             },
         }
     }
+
+    /// Whether a document has a section of the name; no name is the general section's.
+    pub fn has_section(self, document: AnyDocument<'_, '_>, name: Option<&str>) -> bool
+        ensures { result ≡ has_section self (str_name name.entry) (any_document document.entry) }
+    {
+        for (other, _) in document.sections(ValueRule::First) {
+            if self.names_fit(name, other) {
+                return true;
+            }
+        }
+        false
+    }
 }
 
 #[tactic(auto, using(crate::proofs::ReadLemmas::reads))]
@@ -55,6 +67,22 @@ impl Lookup {
         match self.sections {
             SectionRule::First => self.get_in_first(document, name, key),
             SectionRule::Joined => self.get_in_joined(document, name, key),
+        }
+    }
+
+    /// The value of the key that counts; the empty one where there is none. Takes no memory.
+    pub fn get_or_empty<'v>(
+        self,
+        document: AnyDocument<'v, '_>,
+        name: Option<&str>,
+        key: &str,
+    ) -> &'v str
+        ensures { str_text result ≡ unwrap_or
+            (value_under self (str_name name.entry) (chars key.now) (any_document document.entry)) [] }
+    {
+        match self.get(document, name, key) {
+            Some(value) => value,
+            None => "",
         }
     }
 

@@ -6,7 +6,8 @@ ghost use Rattle.ini_dialect.specs.EncodingLaws.{BeginsWithMark, ChangesInside};
 ghost use Rattle.ini_dialect.specs.EncodingNames.{marked};
 ghost use Rattle.ini_dialect.specs.Encodings.{IsDecoded, IsMalformedAt, IsUnencodableAt, encoded};
 ghost use Rattle.ini_dialect.specs.LookupLaws.{AnswersAsCrate, AnswersNothing, AnswersSet};
-ghost use Rattle.ini_dialect.specs.LookupLaws.{KeepsOtherLookups, KeepsOtherSections, LosesSections};
+ghost use Rattle.ini_dialect.specs.LookupLaws.{KeepsOtherLookups, KeepsOtherSections, KeepsUnrenamed};
+ghost use Rattle.ini_dialect.specs.LookupLaws.{LosesSections, MovesValues};
 ghost use Rattle.ini_dialect.specs.Lookups.{delete_under, set_under};
 ghost use Rattle.ini_dialect.specs.Rules.{default_lookup};
 ghost use Rattle.ini_dialect.specs.declared.encoding.Encoding.{Encoding};
@@ -26,6 +27,16 @@ pub fn deleted_is_gone()
     ensures gone { (rule : Lookup) (name : Option Text) (key : Text) → AnswersNothing rule name key }
     ensures others { (rule : Lookup) (name : Option Text) (key : Text)
         → KeepsOtherLookups rule name key (delete_under rule name key) }
+{}
+
+/// After the pairs of a key have another key a look-up by the old one answers nothing, where the other
+/// doesn't fit it; by the other one what it answered by the old one, where the other had no value; by each
+/// name that doesn't fit, and each key that fits neither, what it answered.
+pub fn renamed_keys_are_found()
+    ensures moved { (rule : Lookup) (name : Option Text) (key other : Text)
+        → MovesValues rule name key other }
+    ensures others { (rule : Lookup) (name : Option Text) (key other : Text)
+        → KeepsUnrenamed rule name key other }
 {}
 
 /// After the sections of a name are taken out a look-up there answers nothing, where sections are joined; by

@@ -1,12 +1,14 @@
 //! Edits of a whole text under a rule: it is read in pieces, edited, and written again. This file knows the
 //! calls of pieces alone.
-ghost use Rattle.std.specs.Prelude.{IfErr, IfOk, MatchOption, chars};
+ghost use Rattle.std.specs.Prelude.{IfErr, IfOk, MatchOption, OnOk, chars};
 ghost use Rattle.ini.specs.Texts.{str_name};
 ghost use Rattle.ini_text.specs.Parsing.Items.{string_text};
-ghost use Rattle.ini_edit.specs.Editings.{editing_of};
+ghost use Rattle.ini_edit.specs.Editings.{RenameKey, RenameSection, editing_of};
 ghost use Rattle.ini_edit.specs.SourceEditsSet.{IsMemoryRefusal};
+ghost use Rattle.ini_dialect.specs.KeyEdits.{RefusesKey};
 ghost use Rattle.ini_dialect.specs.RuledTexts.{HasNothingUnder, IsAddedTextUnder, IsDeletedTextUnder};
-ghost use Rattle.ini_dialect.specs.RuledTexts.{IsMadeUnder, IsNameRenamedTextUnder, IsSectionDeletedTextUnder};
+ghost use Rattle.ini_dialect.specs.RuledTexts.{IsKeyRenamedTextUnder, IsMadeUnder, IsNameRenamedTextUnder};
+ghost use Rattle.ini_dialect.specs.RuledTexts.{IsSectionDeletedTextUnder, RenamesWritably};
 ghost use Rattle.ini_dialect.specs.RuledTexts.{IsSetTextUnder, IsSetThereTextUnder, LacksNamed, LacksUnder};
 ghost use Rattle.ini_dialect.specs.RuledTexts.{RefusesInText, RefusesMadeUnder, RefusesToAddTextUnder};
 ghost use Rattle.ini_dialect.specs.RuledTexts.{RefusesToSetTextUnder};
@@ -14,15 +16,15 @@ ghost use Rattle.ini_dialect.specs.SectionEdits.{RefusesName};
 ghost use Rattle.ini_dialect.specs.SourceLookups.{RefusesValue};
 
 use crate::rule::Lookup;
-use ini_edit::{Edit, EditError, Source, make_edit};
+use ini_edit::{Edit, EditError, Source};
 use ini_text::{EscapePolicy, ParseOption, WriteOption};
 use std::alloc::Global;
 
 impl Lookup {
     /// The text with the edit made in it under the rule: the pair that counts is set, a new pair goes where
-    /// it counts, all pairs of the key that are looked at are taken out. `None` where there is no such pair.
-    /// All sections of a name that are looked at are taken out, or renamed. Another key for a pair is that of
-    /// `ini_edit`'s `make_edit`.
+    /// it counts, all pairs of the key that are looked at are taken out, or get the other key, and all
+    /// sections of the name that are looked at are taken out, or renamed. `None` where there is no such pair
+    /// or section.
     ///
     /// # Errors
     ///
@@ -40,6 +42,8 @@ impl Lookup {
             (HasNothingUnder self read (chars text.now) (editing_of edit.entry))
             (λ new. IsMadeUnder self read (chars text.now) write.now (editing_of edit.entry)
             (string_text new))) }
+        ensures writable { OnOk result
+            (RenamesWritably read write.now.escape_policy (editing_of edit.entry)) }
         ensures refused { IfErr result
             (RefusesMadeUnder self read (chars text.now) write.now (editing_of edit.entry)) }
     {
@@ -55,7 +59,10 @@ impl Lookup {
                 Ok(Some(self.add_in_text(alloc, text, read, write, name, key, value)?))
             }
             Edit::Delete { name, key } => self.delete_in_text(alloc, text, read, name, key),
-            Edit::RenameKey { .. } => make_edit(alloc, text, read, write, edit),
+            Edit::RenameKey { name, old, new } => {
+                let policy = write.escape_policy;
+                self.rename_key_in_text(alloc, text, read, policy, name, old, new)
+            }
             Edit::DeleteSection { name } => self.delete_section_in_text(alloc, text, read, name),
             Edit::RenameSection { old, new } => {
                 let policy = write.escape_policy;
@@ -153,6 +160,34 @@ impl Lookup {
         Ok(None)
     }
 
+    // The text in which the pairs have the key that `rename_key_in_source` gives them; `None` where there is
+    // none.
+    fn rename_key_in_text(
+        self,
+        alloc: Global,
+        text: &str,
+        read: ParseOption,
+        policy: EscapePolicy,
+        name: Option<&str>,
+        old: &str,
+        new: &str,
+    ) -> Result<Option<String>, EditError>
+        ensures renamed { IfOk result (λ renamed. MatchOption renamed
+            (LacksUnder self read (chars text.now) (str_name name.entry) (chars old.now))
+            (λ made. IsKeyRenamedTextUnder self read (chars text.now) policy (str_name name.entry)
+            (chars old.now) (chars new.now) (string_text made))) }
+        ensures writable { OnOk result (RenamesWritably read policy
+            (RenameKey (str_name name.entry) (chars old.now) (chars new.now))) }
+        ensures refused { IfErr result (RefusesInText read (chars text.now)
+            (λ p. RefusesKey read policy (chars new.now))) }
+    {
+        let mut source = Source::read(alloc, text, read)?;
+        if self.rename_key_in_source(alloc, policy, &mut source, name, old, new)? {
+            return Ok(Some(source.to_text(alloc)?));
+        }
+        Ok(None)
+    }
+
     // The text without the sections that `delete_section_in_source` takes out; `None` where there is none.
     fn delete_section_in_text(
         self,
@@ -189,6 +224,8 @@ impl Lookup {
             (LacksNamed self read (chars text.now) (chars old.now))
             (λ made. IsNameRenamedTextUnder self read (chars text.now) policy (chars old.now)
             (chars new.now) (string_text made))) }
+        ensures writable { OnOk result (RenamesWritably read policy
+            (RenameSection (chars old.now) (chars new.now))) }
         ensures refused { IfErr result (RefusesInText read (chars text.now)
             (λ p. RefusesName read policy (chars new.now))) }
     {

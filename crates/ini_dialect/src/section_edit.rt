@@ -1,7 +1,7 @@
 //! Edits under a rule of the sections of a text in pieces. This file knows the edits of pieces by a section's
 //! own name.
 ghost use Rattle.std.specs.Prelude.{◌≡◌, ◌↔◌, chars, Err, IfErr, IfOk, IsOkUnless, OnErr, OnOk, None, Some};
-ghost use Rattle.std.specs.Prelude.{alloc_error, map};
+ghost use Rattle.std.specs.Prelude.{alloc_error};
 ghost use Rattle.std.specs.Map.{remove_entry};
 ghost use Rattle.ini_multimap.specs.Pairs.{without};
 ghost use Rattle.ini.specs.Edits.{first_renamed};
@@ -10,7 +10,7 @@ ghost use Rattle.ini_text.specs.Laws.Plain.{IsPlainName};
 ghost use Rattle.ini_edit.specs.Edited.{IsNameOrMemory};
 ghost use Rattle.ini_edit.specs.SourceEdits.{IsNameRenamed};
 ghost use Rattle.ini_edit.specs.SourceEditsSet.{IsMemoryRefusal};
-ghost use Rattle.ini_edit.specs.Sources.{document_in, given_section};
+ghost use Rattle.ini_edit.specs.Sources.{document_in};
 ghost use Rattle.ini_edit.specs.declared.error.EditError.TheVariants as EditErrors;
 ghost use Rattle.ini_dialect.specs.Inside.{IsFirstName};
 ghost use Rattle.ini_dialect.specs.Lookups.{name_fits};
@@ -22,6 +22,7 @@ ghost use Rattle.ini_dialect.specs.declared.rule.SectionRule.TheVariants as Sect
 
 use crate::edit::owned_name;
 use crate::rule::{CaseRule, Lookup, SectionRule};
+use crate::walk::AnyDocument;
 use ini::SectionKey;
 use ini_edit::{EditError, Source, SourceSection};
 use ini_text::{Error, EscapePolicy, is_plain_name};
@@ -79,7 +80,7 @@ impl Lookup {
 
     /// Gives the first section of the name `old`, where sections are joined each of them, the name `new`, as
     /// `Source::rename_section` gives it: whether there was one. Where sections are joined those that have
-    /// it already stay as they are written, and it takes memory for a copy of the pieces.
+    /// it already stay as they are written. Takes memory for a copy of the pieces.
     ///
     /// # Errors
     ///
@@ -238,7 +239,7 @@ impl CaseRule {
             (document_in source.old)) }
         ensures only { IfErr result IsMemoryRefusal }
     {
-        let found = self.is_there(source.sections(), old);
+        let found = self.has_section(AnyDocument::Source(source), Some(old));
         'sections: while let Some(first) = self.first_name(
             alloc,
             source.sections(),
@@ -248,18 +249,6 @@ impl CaseRule {
             source.rename_section(alloc, policy, first.as_str(), new)?;
         }
         Ok(found)
-    }
-
-    // Whether there is a section of the name.
-    fn is_there(self, sections: &[SourceSection<'_>], name: &str) -> bool
-        ensures { result ≡ has_fitting self (chars name.now) (map given_section sections.now) }
-    {
-        for section in sections {
-            if self.names_fit(Some(name), section.name()) {
-                return true;
-            }
-        }
-        false
     }
 
     // The name of the first section that is sought, copied.

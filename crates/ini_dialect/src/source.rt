@@ -1,18 +1,19 @@
 //! Edits under a rule of a text in pieces. This file knows the edits of pieces at an index.
-ghost use Rattle.std.specs.Prelude.{◌≡◌, IfErr, IfNone, IfOk, IfSome, IsOkUnless, OnErr, OnOk, None};
-ghost use Rattle.std.specs.Prelude.{alloc_error, chars, is_some};
+ghost use Rattle.std.specs.Prelude.{◌≡◌, ◌++◌, IfErr, IfNone, IfOk, IfSome, IsOkUnless, OnErr, OnOk, None};
+ghost use Rattle.std.specs.Prelude.{alloc_error, chars, is_some, map};
 ghost use Rattle.ini.specs.Texts.{str_name};
-ghost use Rattle.ini_edit.specs.Sources.{document_in};
+ghost use Rattle.ini_edit.specs.Sources.{document_in, given_pair};
+ghost use Rattle.ini_dialect.specs.KeyEdits.{numbers_in, numbers_under};
 ghost use Rattle.ini_dialect.specs.Lookups.{delete_under, set_under, value_under};
 ghost use Rattle.ini_dialect.specs.SourceLookups.{AreDeletedUnder, IsAddedUnder, IsCountingPair, IsPutUnder};
 ghost use Rattle.ini_dialect.specs.SourceLookups.{RefusesToPutUnder, RefusesUnder, RefusesValue, SetsUnder};
 ghost use Rattle.ini_dialect.specs.SourceLookups.{TakesNew, by_first};
 
-use crate::rule::{Lookup, ValueRule};
+use crate::rule::{CaseRule, Lookup, SectionRule, ValueRule};
 use crate::walk::{AnyDocument, AnySection};
-use ini_edit::{EditError, Source};
+use ini_edit::{EditError, Source, SourceSection};
 use ini_text::{Error, EscapePolicy, WriteOption};
-use std::alloc::Global;
+use std::alloc::{AllocError, Global};
 
 /// Where a pair stands: the number of its section, and its own in that, both from 0.
 #[derive(Clone, Copy, PartialEq, Eq, Debug)]
@@ -39,12 +40,38 @@ impl Lookup {
         Some(PairNumber { section, pair })
     }
 
+    /// Where the pairs stand from which `get_all` answers, in order. Refused when out of memory.
+    pub fn find_all_in_source(
+        self,
+        alloc: Global,
+        source: &Source<'_>,
+        name: Option<&str>,
+        key: &str,
+    ) -> Result<Vec<PairNumber>, AllocError>
+        ensures { IfOk result (λ numbers. numbers.items
+            ≡ numbers_under self (str_name name.entry) (chars key.now) (document_in source.now)) }
+    {
+        let sections = source.sections();
+        let mut numbers = Vec::new(alloc);
+        for (number, section) in sections.iter().enumerate() {
+            if !self.case.names_fit(name, section.name()) {
+                continue;
+            }
+            self.case.push_numbers(section, number, key, &mut numbers)?;
+            match self.sections {
+                SectionRule::First => return Ok(numbers),
+                SectionRule::Joined => {}
+            }
+        }
+        Ok(numbers)
+    }
+
     /// Sets the value of the pair from which `get` answers, where there is one: whether there is. It is
     /// written as `Source::set_existing` writes it, and every other byte stays.
     ///
     /// # Errors
     ///
-    /// `Value` where no form of the value is read back, whatever the text is; `Text` where memory is
+    /// `Value` where there is such a pair, and no form of the value is read back; `Text` where memory is
     /// refused. Nothing is changed then.
     pub fn set_existing_in_source(
         self,
@@ -221,5 +248,30 @@ impl Lookup {
             case: self.case,
         };
         first.find_in_source(source, name, key)
+    }
+}
+
+impl CaseRule {
+    // Puts the numbers of the pairs of the key in the section of this number last, in order.
+    fn push_numbers(
+        self,
+        section: &SourceSection<'_>,
+        number: usize,
+        key: &str,
+        numbers: &mut Vec<PairNumber>,
+    ) -> Result<(), AllocError>
+        ensures { OnOk result (numbers.new.items ≡ numbers.old.items
+            ++ numbers_in self (chars key.now) number 0 (map given_pair section.now.pairs)) }
+    {
+        let pairs = section.pairs();
+        for (pair, other) in pairs.iter().enumerate() {
+            if self.fits(key, other.key()) {
+                numbers.push(PairNumber {
+                    section: number,
+                    pair,
+                })?;
+            }
+        }
+        Ok(())
     }
 }

@@ -16,11 +16,10 @@ use Rattle.ini_edit.specs.Inside.SourceEnds.{IsPairAt, IsPlaceAt, last_before}
 use Rattle.ini_edit.specs.Inside.Spans.{AreSections}
 use Rattle.ini_edit.specs.SourceEditsAdded.{new_line_end}
 use Rattle.ini_edit.specs.SourceEditsComments.{IsCommentText, IsCommented, IsCommentedOut, comment_put}
-use Rattle.ini_edit.specs.SourceEditsComments.{lines_of_comment}
-use Rattle.ini_edit.specs.SourceEditsComments.{pair_commented_out}
+use Rattle.ini_edit.specs.SourceEditsComments.{in_section, lines_of_comment, pair_commented_out}
 use Rattle.ini_edit.specs.SourceEditsDelete.{deleted_at, pair_taken_out, rest_put, with_rest}
 use Rattle.ini_edit.specs.SourceLines.{is_empty}
-use Rattle.ini_edit.specs.SourcePlaces.{Place, exchanged, gap_put}
+use Rattle.ini_edit.specs.SourcePlaces.{PairPlace, Place, exchanged, gap_put}
 use Rattle.ini_edit.specs.SourcePlaces.{last_before_section, edited_at, last_changed, pair_place}
 use Rattle.ini_edit.specs.SourcePlaces.{section_exchanged, with_end}
 use Rattle.ini_edit.specs.NewLines.{line_end_of}
@@ -147,8 +146,8 @@ module _ (o : ParseOption) (w : WriteOption) (ss : List SectionPiece) (name : Op
   }
 
 -- a pair made comments
-module _ (o : ParseOption) (ss : List SectionPiece) (name : Option Text) (key : Text) {i j : ℕ}
-    (at : IsPairAt (pair_place name key 0 ss) ss i j) {new : SectionPiece}
+module _ (o : ParseOption) (ss : List SectionPiece) {found : Option PairPlace} {i j : ℕ}
+    (at : IsPairAt found ss i j) {new : SectionPiece}
     (put : pair_commented_out o (last_before_section at.place.section) at.place.section.here at.place.pair
     ≡ Some new) where
   abbrev old_section : SectionPiece
@@ -162,20 +161,30 @@ module _ (o : ParseOption) (ss : List SectionPiece) (name : Option Text) (key : 
       subst (AreSections o) (sym (place_set at.section new))
       (commented_out_sections o at.section at.place.pair at.pair.whole are new put)
 
-  out_given : given_section new
+  pub out_given : given_section new
       ≡ (old_section.name, map given_pair (at.place.pair.before ++ at.place.pair.after))
   out_given =
       ap given_section (sym (chosen _ _ new put))
       ∙ rest_put_given o [] _ old_section at.place.pair.before at.place.pair.after
 
+  pub out_exchanged : in_section (pair_commented_out o) at.place ≡ Some (set ss i new)
+  out_exchanged =
+      ap (option_map (section_exchanged at.place)) put ∙ ap Some (sym (place_set at.section new))
+
+-- the first one of a key
+module _ (o : ParseOption) (ss : List SectionPiece) (name : Option Text) (key : Text) {i j : ℕ}
+    (at : IsPairAt (pair_place name key 0 ss) ss i j) {new : SectionPiece}
+    (put : pair_commented_out o (last_before_section at.place.section) at.place.section.here at.place.pair
+    ≡ Some new) where
   out_document : map given_section (set ss i new) ≡ delete_in name key (map given_section ss)
   out_document =
       let s = at.place.section in
-      let taken = pair_taken_out o old_front old_section at.place.pair in
+      let front = last_before_section s in
+      let taken = pair_taken_out o front s.here at.place.pair in
       ap (map given_section) (place_set at.section new)
       ∙ map-append given_section s.before (new ∷ s.after)
       ∙ ap (λ e. map given_section s.before ++ e ∷ map given_section s.after)
-      (out_given ∙ sym (taken_given o old_front old_section at.place.pair))
+      (out_given o ss at put ∙ sym (taken_given o front s.here at.place.pair))
       ∙ sym (map-append given_section s.before (taken ∷ s.after))
       ∙ ap (λ p. map given_section (edited_at (deleted_at o) p ss)) (sym at.is)
       ∙ first_document o name key ss
@@ -186,15 +195,15 @@ module _ (o : ParseOption) (ss : List SectionPiece) (name : Option Text) (key : 
     at = at.place;
     was = at.is;
     option = refl;
-    sections = ap (option_map (section_exchanged at.place)) put ∙ ap Some (sym (place_set at.section new));
+    sections = out_exchanged o ss at put;
     document = out_document;
   }
 
 -- what a call makes of the section that it read, where it read the pieces v, which it was given as w
-module _ (name : Option Text) (key : Text) {v w : Pieces} (view : v ≡ w) {i j : ℕ}
-    (there : IsPairAt (pair_place name key 0 w.sections) w.sections i j) where
-  pub pair_there : IsPairAt (pair_place name key 0 v.sections) v.sections i j
-  pair_there = subst (λ v. IsPairAt (pair_place name key 0 v.sections) v.sections i j) (sym view) there
+module _ (find : List SectionPiece → Option PairPlace) {v w : Pieces} (view : v ≡ w) {i j : ℕ}
+    (there : IsPairAt (find w.sections) w.sections i j) where
+  pub pair_there : IsPairAt (find v.sections) v.sections i j
+  pair_there = subst (λ v. IsPairAt (find v.sections) v.sections i j) (sym view) there
 
   module _ {x : SectionPiece} (read : x ≡ get_or v.sections i x) where
     pub section_read : x ≡ pair_there.place.section.here

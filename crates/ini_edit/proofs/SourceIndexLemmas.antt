@@ -4,6 +4,7 @@ use Rattle.std.proofs.Common.{Option, Some, ap, arith, get_or, length, map, refl
 use Rattle.std.proofs.lemmas.List.{length-map, map-append}
 use Rattle.std.specs.List.{remove}
 use Rattle.std.specs.Option.{option_and_then, option_map}
+use Rattle.ini_text.specs.Escaping.EscapedTexts.{escaped}
 use Rattle.ini_text.specs.Grammar.CharacterKinds.{line_feed}
 use Rattle.ini_text.specs.Grammar.Positions.{last_or}
 use Rattle.ini_text.specs.Options.WriteOptions.{line_end}
@@ -15,15 +16,19 @@ use Rattle.ini_text.specs.declared.write.policy.EscapePolicy.{EscapePolicy}
 use Rattle.ini.specs.Properties.{Pairs}
 use Rattle.ini.specs.Texts.{Text}
 use Rattle.ini_edit.specs.Inside.SourceEnds.{IsFound, IsNewPair, IsNoPlaceOrMemory, IsPairAt, IsPlaceAt}
-use Rattle.ini_edit.specs.Inside.SourceEnds.{IsSetAt, last_before, made_pair, style_at}
-use Rattle.ini_edit.specs.Inside.Spans.{AreSections}
-use Rattle.ini_edit.specs.SourceEdits.{with_pairs}
+use Rattle.ini_edit.specs.Inside.SourceEnds.{IsRenamedAt, IsSetAt, last_before, made_pair, style_at}
+use Rattle.ini_edit.specs.Inside.SourceSteps.{RenamesPair}
+use Rattle.ini_edit.specs.Inside.Spans.{AreSections, gap}
+use Rattle.ini_edit.specs.Renamed.{HasEdges, IsPlainBareKey}
+use Rattle.ini_edit.specs.SourceEdits.{with_key, with_pairs}
 use Rattle.ini_edit.specs.SourceEditsAdd.{pair_put_last}
 use Rattle.ini_edit.specs.SourceEditsAdded.{added_at, new_line_end}
-use Rattle.ini_edit.specs.SourceEditsAt.{IsAddedAtIndex, IsSetAtIndex, RefusesAtIndex, at_index, at_section}
+use Rattle.ini_edit.specs.SourceEditsAt.{IsAddedAtIndex, IsCommentedOutAtIndex, IsKeyRenamedAtIndex}
+use Rattle.ini_edit.specs.SourceEditsAt.{IsSetAtIndex, RefusesAtIndex, at_index, at_section}
 use Rattle.ini_edit.specs.SourceEditsAt.{deleted_at_index, indexed_pair, indexed_place}
+use Rattle.ini_edit.specs.SourceEditsComments.{pair_commented_out}
 use Rattle.ini_edit.specs.SourceEditsDelete.{deleted_at, pair_taken_out}
-use Rattle.ini_edit.specs.SourceEditsSet.{with_value_before}
+use Rattle.ini_edit.specs.SourceEditsSet.{pair_changed_at, with_value_before}
 use Rattle.ini_edit.specs.SourcePlaces.{PairPlace, Place, edited_at, exchanged, is_nil, last_before_section}
 use Rattle.ini_edit.specs.SourcePlaces.{one_on}
 use Rattle.ini_edit.specs.SourceWritten.{IsFirstReadAs, IsWritableNew, Style, value_forms}
@@ -35,7 +40,10 @@ use Rattle.ini_edit.proofs.AddSourceLemmas.{made_there, put_so, put_there, stand
 use Rattle.ini_edit.proofs.DeletedSourceLemmas.{placed_in, taken_given}
 use Rattle.ini_edit.proofs.PairAddLemmas.{gives_last}
 use Rattle.ini_edit.proofs.SourcePlaceLemmas.{place_read, place_remove, place_set, place_take}
-use Rattle.ini_edit.proofs.SourceWrittenLemmas.{before_given, here_read}
+use Rattle.ini_edit.proofs.SourceCommentLemmas.{out_exchanged, out_given}
+use Rattle.ini_edit.proofs.SourceRenameLemmas.{spans_renamed}
+use Rattle.ini_edit.proofs.SourceSpanLemmas.{pairs_put_in, spans_after_pairs, spans_before_pairs}
+use Rattle.ini_edit.proofs.SourceWrittenLemmas.{before_given, changed_in, here_read}
 use Rattle.ini_edit.proofs.TakenLemmas.{sections_taken}
 
 -- the place at an index that a list has, and none where it hasn't
@@ -153,6 +161,81 @@ module _ {o : ParseOption} {policy : EscapePolicy} {value : Text} {ss : List Sec
             (before_given o there_set.source value p.after p.here)
             ∙ sym (place_edited (place_seen at.pair given_pair) (λ q. (q.0, value)))));
       }
+
+-- a key renamed
+module _ {o : ParseOption} {policy : EscapePolicy} {other : Text} {ss : List SectionPiece} {i j : ℕ}
+    (at : IsPairAt (indexed_pair i j ss) ss i j) {s new : SectionPiece} (read : s ≡ get_or ss i s)
+    (is : IsRenamedAt o policy other s new at.place.pair) where
+  there_renamed : IsRenamedAt o policy other at.place.section.here new at.place.pair
+  there_renamed = subst (λ s. IsRenamedAt o policy other s new at.place.pair) (here_read at read) is
+
+  abbrev named_so : PairPiece → PairPiece
+  named_so = with_key (there_renamed.indent ++ (escaped policy other ++ there_renamed.pad)) other
+
+  sections_named : set ss i new ≡ pair_changed_at named_so at.place
+  sections_named =
+      place_set at.section new ∙ ap (λ t. exchanged at.place.section (t ∷ [])) there_renamed.is
+
+  pub renamed_stands : IsPlainBareKey o policy other → AreSections o ss → AreSections o (set ss i new)
+  renamed_stands plain are =
+      let s = at.place.section in
+      let p = at.place.pair in
+      subst (AreSections o) (sym sections_named)
+      (pairs_put_in o at.section p.before (p.here ∷ []) (named_so p.here ∷ []) p.after at.pair.whole
+      (spans_renamed plain p.here there_renamed.edges (spans_before_pairs s p.before)
+      (gap p.here.after ∷ spans_after_pairs s p.after)) are)
+
+  pub renamed_indexed : IsKeyRenamedAtIndex o policy (record { option = o; sections = ss })
+      (record { option = o; sections = set ss i new }) i j other
+  renamed_indexed =
+      let p = at.place.pair in
+      let h = at.place.section.here in
+      record {
+        place = at.place;
+        was = at.is;
+        indent = there_renamed.indent;
+        pad = there_renamed.pad;
+        edges = there_renamed.edges;
+        option = refl;
+        sections = sections_named;
+        document = section_edited at.section new (at_index j (λ q. (other, q.1)))
+            (ap given_section there_renamed.is
+            ∙ ap (λ g. (h.name, g))
+            (map-append given_pair p.before (named_so p.here ∷ p.after)
+            ∙ sym (place_edited (place_seen at.pair given_pair) (λ q. (other, q.1)))));
+      }
+
+-- by the pair that is read in the section
+pub key_put_at : {o : ParseOption} {policy : EscapePolicy} {other : Text} {s t : SectionPiece} {i : ℕ}
+    {y z : PairPiece} (p : Place PairPiece) → t ≡ s → IsPlaceAt s.pairs p i → y ≡ get_or t.pairs i y
+    → RenamesPair o policy y z other → IsRenamedAt o policy other s (with_pairs t (set t.pairs i z)) p
+key_put_at {o} {policy} {other} {s} {t} {i} p same at is h =
+    let there = place_read (subst (λ s. IsPlaceAt s.pairs p i) (sym same) at) is in
+    record {
+      indent = h.indent;
+      pad = h.pad;
+      edges = subst (λ q. HasEdges o q.stretches.key h.indent h.pad) there h.edges;
+      is = changed_in (with_key (h.indent ++ (escaped policy other ++ h.pad)) other) p same at is h.is;
+    }
+
+-- a pair made comments
+pub out_indexed : (o : ParseOption) (ss : List SectionPiece) {i j : ℕ}
+    (at : IsPairAt (indexed_pair i j ss) ss i j) {new : SectionPiece}
+    → pair_commented_out o (last_before_section at.place.section) at.place.section.here at.place.pair ≡ Some new
+    → IsCommentedOutAtIndex o (record { option = o; sections = ss })
+    (record { option = o; sections = set ss i new }) i j
+out_indexed o ss {i} {j} at {new} put =
+    let p = at.place.pair in
+    record {
+      place = at.place;
+      was = at.is;
+      option = refl;
+      sections = out_exchanged o ss at put;
+      document = section_edited at.section new (λ pairs. remove pairs j)
+          (out_given o ss at put
+          ∙ ap (λ g. (at.place.section.here.name, g))
+          (map-append given_pair p.before p.after ∙ sym (place_remove (place_seen at.pair given_pair))));
+    }
 
 -- a pair taken out
 module _ {ss : List SectionPiece} {i j : ℕ} (at : IsPairAt (indexed_pair i j ss) ss i j)

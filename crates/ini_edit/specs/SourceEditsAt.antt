@@ -1,13 +1,20 @@
 -- Edits of a text in pieces at an index: at that of a section, and at that of a pair in it.
 use Rattle.std.specs.Prelude.{◌≡◌, Bool, true, false, ℕ, zero, suc, List, [], ◌∷◌, ◌++◌, Option, None, Some}
+use Rattle.std.specs.Prelude.{alloc_error}
+use Rattle.std.specs.List.{remove}
 use Rattle.std.specs.Option.{option_and_then, option_map}
+use Rattle.ini_text.specs.Escaping.EscapedTexts.{escaped}
+use Rattle.ini_text.specs.declared.error.Error.TheVariants.{Memory}
 use Rattle.ini.specs.Documents.{Document}
 use Rattle.ini.specs.Properties.{Pairs}
 use Rattle.ini.specs.Texts.{Text}
 use Rattle.ini_text.specs.declared.option.ParseOption.{ParseOption}
 use Rattle.ini_text.specs.declared.write.option.WriteOption.{WriteOption}
 use Rattle.ini_text.specs.declared.write.policy.EscapePolicy.{EscapePolicy}
+use Rattle.ini_edit.specs.Renamed.{HasEdges}
+use Rattle.ini_edit.specs.SourceEdits.{with_key}
 use Rattle.ini_edit.specs.SourceEditsAdded.{added_at}
+use Rattle.ini_edit.specs.SourceEditsComments.{in_section, pair_commented_out}
 use Rattle.ini_edit.specs.SourceEditsDelete.{deleted_at}
 use Rattle.ini_edit.specs.SourceEditsSet.{pair_changed_at, with_value_before}
 use Rattle.ini_edit.specs.SourcePlaces.{PairPlace, Place, edited_at, one_on}
@@ -15,7 +22,7 @@ use Rattle.ini_edit.specs.SourceWritten.{IsFirstReadAs, IsWritableNew, IsWritten
 use Rattle.ini_edit.specs.SourceWritten.{value_forms}
 use Rattle.ini_edit.specs.Sources.{Pieces, SectionPiece, document_in}
 use Rattle.ini_edit.specs.declared.error.EditError.{EditError}
-use Rattle.ini_edit.specs.declared.error.EditError.TheVariants.{NoPlace}
+use Rattle.ini_edit.specs.declared.error.EditError.TheVariants.{NoPlace, Text as TextError}
 
 -- the place at an index, from 0, of a list
 abbrev pub indexed_place : {A : Type 0} → ℕ → List A → Option (Place A)
@@ -58,6 +65,50 @@ abbrev pub SetsAtIndex : ParseOption → EscapePolicy → Pieces → Pieces → 
 SetsAtIndex o policy old new section pair value true = IsSetAtIndex o policy old new section pair value
 SetsAtIndex o policy old new section pair value false =
     (new ≡ old) × (indexed_pair section pair old.sections ≡ None)
+
+-- The pair at the indices has another key, which is written by the policy between the white space that stood
+-- around the old one.
+pub record IsKeyRenamedAtIndex (o : ParseOption) (policy : EscapePolicy) (old new : Pieces)
+    (section pair : ℕ) (other : Text) : Type 0 where
+  pub place : PairPlace
+  pub was : indexed_pair section pair old.sections ≡ Some place
+  pub indent : Text
+  pub pad : Text
+  pub edges : HasEdges o place.pair.here.stretches.key indent pad
+  pub option : new.option ≡ old.option
+  pub sections : new.sections
+      ≡ pair_changed_at (with_key (indent ++ (escaped policy other ++ pad)) other) place
+  pub document : document_in new
+      ≡ at_section section (at_index pair (λ p. (other, p.1))) (document_in old)
+
+-- it has, or there is no such pair, and all stays
+abbrev pub RenamesAtIndex : ParseOption → EscapePolicy → Pieces → Pieces → (section pair : ℕ) → Text → Bool
+    → Type 0
+RenamesAtIndex o policy old new section pair other true =
+    IsKeyRenamedAtIndex o policy old new section pair other
+RenamesAtIndex o policy old new section pair other false =
+    (new ≡ old) × (indexed_pair section pair old.sections ≡ None)
+
+-- the pair at the indices is a comment
+pub record IsCommentedOutAtIndex (o : ParseOption) (old new : Pieces) (section pair : ℕ) : Type 0 where
+  pub place : PairPlace
+  pub was : indexed_pair section pair old.sections ≡ Some place
+  pub option : new.option ≡ old.option
+  pub sections : in_section (pair_commented_out o) place ≡ Some new.sections
+  pub document : document_in new ≡ at_section section (λ pairs. remove pairs pair) (document_in old)
+
+-- it is, or there is no such pair, and all stays
+abbrev pub CommentsOutAtIndex : ParseOption → Pieces → Pieces → (section pair : ℕ) → Bool → Type 0
+CommentsOutAtIndex o old new section pair true = IsCommentedOutAtIndex o old new section pair
+CommentsOutAtIndex o old new section pair false =
+    (new ≡ old) × (indexed_pair section pair old.sections ≡ None)
+
+-- it is refused where no comment may stand, or for memory
+pub data RefusesToCommentOutAtIndex (o : ParseOption) (ss : List SectionPiece) (section pair : ℕ)
+    : EditError → Type 0 where
+  no_place_at : {place : PairPlace} → indexed_pair section pair ss ≡ Some place
+      → in_section (pair_commented_out o) place ≡ None → RefusesToCommentOutAtIndex o ss section pair NoPlace
+  no_memory_at : RefusesToCommentOutAtIndex o ss section pair (TextError (Memory alloc_error))
 
 -- the pair at the indices taken out
 abbrev pub deleted_at_index : ParseOption → (section pair : ℕ) → List SectionPiece → List SectionPiece

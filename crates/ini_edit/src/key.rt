@@ -89,7 +89,7 @@ fn is_key_white(c: char, line: LoneLine) -> bool
 
 /// Whether a key can be written in any pair's place so that it is read back: it is plain, and no space
 /// begins it.
-pub(crate) fn is_plain_bare_key(key: &str, policy: EscapePolicy, read: ParseOption) -> bool
+pub fn is_plain_bare_key(key: &str, policy: EscapePolicy, read: ParseOption) -> bool
     ensures { IsTrue result ↔ IsPlainBareKey read policy (chars key.now) }
 {
     is_plain_pair(key, "", policy, read) && !begins_with_space(key)

@@ -24,6 +24,7 @@ pub use edit_list::{EditedText, RefusedEdit, make_edits};
 pub use edits::{Edit, make_edit};
 pub use error::EditError;
 pub use find::{FoundPair, find_pair};
+pub use key::is_plain_bare_key;
 pub use source::Source;
 pub use source::elements::{Position, SourceContent, SourceElement, SourceElements};
 pub use source::layout::sort::{Sorting, sort_text};

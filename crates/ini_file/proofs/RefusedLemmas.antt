@@ -6,19 +6,19 @@ use Rattle.ini_text.specs.declared.write.option.WriteOption.{WriteOption}
 use Rattle.ini.specs.Texts.{Text}
 use Rattle.ini_edit.specs.Editings.{Editing}
 use Rattle.ini_edit.specs.SourceEditsAdded.{RefusesAdding, RefusesOneValue}
-use Rattle.ini_edit.specs.SourceEditsAt.{RefusesAtIndex}
-use Rattle.ini_edit.specs.SourceEditsComments.{RefusesToCommentOut}
+use Rattle.ini_edit.specs.SourceEditsAt.{RefusesAtIndex, RefusesToCommentOutAtIndex}
 use Rattle.ini_edit.specs.Sources.{Pieces, SectionPiece}
 use Rattle.ini_edit.specs.WholeTexts.{RefusesOfText, RefusesToAddTo}
 use Rattle.ini_edit.specs.declared.error.EditError.{EditError}
 use Rattle.ini_edit.specs.declared.error.EditError.TheVariants.{Text as TextError}
+use Rattle.ini_dialect.specs.KeyEdits.{RefusesToCommentOutUnder}
 use Rattle.ini_dialect.specs.RuledTexts.{RefusesInText, RefusesMadeUnder}
 use Rattle.ini_dialect.specs.SourceLookups.{RefusesToPutUnder, RefusesUnder}
 use Rattle.ini_dialect.specs.declared.rule.Lookup.{Lookup}
 use Rattle.ini_file.specs.Edits.{RefusesMadeBy}
 use Rattle.ini_file.specs.Edits.{is_own}
 use Rattle.ini_file.specs.ValueLists.{RefusesReplaced, RefusesValuesBy}
-use Rattle.ini_file.specs.Further.{FurtherEditing, RefusesFurtherText, RefusesToComment}
+use Rattle.ini_file.specs.Further.{FurtherEditing, RefusesFurtherText}
 use Rattle.ini_file.specs.Uncomment.{RefusesToUncomment}
 
 adding : {o : ParseOption} {w : WriteOption} {ss : List SectionPiece} {name : Option Text} {key value : Text}
@@ -65,7 +65,8 @@ module _ (rule : Lookup) (o : ParseOption) (w : WriteOption) (T : Text) where
   no_text_under (Editing.Add name key value) (RefusesInText.pieces r) = adding_under r.refused
   no_text_under (Editing.Delete name key) (RefusesInText.reading h) = h
   no_text_under (Editing.Delete name key) (RefusesInText.pieces r) = r.refused
-  no_text_under (Editing.RenameKey name old new) h = h
+  no_text_under (Editing.RenameKey name old new) (RefusesInText.reading h) = h
+  no_text_under (Editing.RenameKey name old new) (RefusesInText.pieces r) = r.refused
   no_text_under (Editing.DeleteSection name) (RefusesInText.reading h) = h
   no_text_under (Editing.DeleteSection name) (RefusesInText.pieces r) = r.refused
   no_text_under (Editing.RenameSection old new) (RefusesInText.reading h) = h
@@ -77,14 +78,14 @@ no_text_by true rule o w T e r = no_text o w T e r
 no_text_by false rule o w T e r = no_text_under rule o w T e r
 
 -- nor one that is none of the list
-commenting_out : {o : ParseOption} {ss : List SectionPiece} {name : Option Text} {key : Text} {e : EditError}
-    → RefusesToCommentOut o ss name key e → e ≡ TextError NotUtf8 → ⊥
-commenting_out (RefusesToCommentOut.no_place_out was none) is = cc
-commenting_out RefusesToCommentOut.no_memory_out is = cc
+commenting_at : {o : ParseOption} {ss : List SectionPiece} {section pair : ℕ} {e : EditError}
+    → RefusesToCommentOutAtIndex o ss section pair e → e ≡ TextError NotUtf8 → ⊥
+commenting_at (RefusesToCommentOutAtIndex.no_place_at was none) is = cc
+commenting_at RefusesToCommentOutAtIndex.no_memory_at is = cc
 
 commenting : {rule : Lookup} {name : Option Text} {key : Text} {p : Pieces}
-    → RefusesToComment rule name key p (TextError NotUtf8) → ⊥
-commenting (RefusesToComment.no_place r) = commenting_out r refl
+    → RefusesToCommentOutUnder rule name key p (TextError NotUtf8) → ⊥
+commenting (RefusesToCommentOutUnder.there counts r) = commenting_at r refl
 
 values_by : (own : Bool) (rule : Lookup) (w : WriteOption) (name : Option Text) (key : Text)
     (values : List Text) (p : Pieces) → RefusesValuesBy rule w name key own values p (TextError NotUtf8) → ⊥

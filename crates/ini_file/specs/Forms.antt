@@ -1,10 +1,9 @@
 -- The forms in which names, keys and values are written, and which values are got.
 use Rattle.std.specs.Prelude.{Bool, true, false, if◌then◌else◌, flat_map, map, Option, None, Some, is_some}
-use Rattle.std.specs.List.{list_any}
 use Rattle.std.specs.Option.{option_map, option_or}
 use Rattle.ini.specs.Texts.{Text}
 use Rattle.ini.specs.Documents.{Document}
-use Rattle.ini_dialect.specs.Lookups.{all_values, is_named, keys_under, names_under, value_under}
+use Rattle.ini_dialect.specs.Lookups.{all_values, has_section, keys_under, names_under, value_under}
 use Rattle.ini_dialect.specs.declared.rule.CaseRule.{CaseRule}
 use Rattle.ini_dialect.specs.declared.rule.CaseRule.TheVariants.{Ignored, Kept}
 use Rattle.ini_dialect.specs.declared.rule.Lookup.{Lookup}
@@ -45,7 +44,7 @@ names_listed rule all form d =
 -- each key once, of the sections of the name that are looked at; no text where there is none
 abbrev pub keys_once : Lookup → Form → Option Text → Document → Option Text
 keys_once rule form section d =
-    if list_any (is_named rule section) d then Some (flat_map (entry form) (keys_under rule section d))
+    if has_section rule.case section d then Some (flat_map (entry form) (keys_under rule section d))
     else None
 
 -- the keys: of the first section alone, with case kept, that of each pair; else each key once

@@ -3,9 +3,7 @@
 use Rattle.std.specs.Prelude.{◌≡◌, ◌==◌, ◌&&◌, ◌⊎◌, Bool, true, false, ℕ, List, [], ◌++◌, Option, None, Some}
 use Rattle.std.specs.Prelude.{⊤}
 use Rattle.std.specs.Prelude.{chars}
-use Rattle.std.specs.List.{list_any}
 use Rattle.std.specs.Str.{IsUtf8}
-use Rattle.ini_text.specs.Laws.Plain.{IsPlainName}
 use Rattle.ini_text.specs.Parsing.ByteOrderMarks.{has_byte_order_mark}
 use Rattle.ini_text.specs.declared.error.Error.TheVariants.{Memory}
 use Rattle.ini_text.specs.declared.option.ParseOption.{ParseOption}
@@ -13,20 +11,15 @@ use Rattle.ini_text.specs.declared.write.option.WriteOption.{WriteOption}
 use Rattle.ini.specs.Texts.{Text, str_name, str_text}
 use Rattle.ini_edit.specs.Editings.{Delete}
 use Rattle.ini_edit.specs.SourceEditsAdded.{AddsSection}
-use Rattle.ini_edit.specs.SourceEditsComments.{IsCommentedOut, RefusesToCommentOut}
-use Rattle.ini_edit.specs.SourceEditsSet.{IsMemoryRefusal}
-use Rattle.ini_edit.specs.SourcePlaces.{pair_place}
-use Rattle.ini_edit.specs.Sources.{Pieces, SectionPiece, document_in}
-use Rattle.ini_edit.specs.WholeTexts.{IsReadInPieces}
+use Rattle.ini_edit.specs.Sources.{Pieces, document_in}
 use Rattle.ini_edit.specs.declared.error.EditError.{EditError}
-use Rattle.ini_edit.specs.declared.error.EditError.TheVariants.{Key, Name, NoPlace, Text as TextError}
-use Rattle.ini_dialect.specs.Lookups.{name_fits, value_under}
-use Rattle.ini_dialect.specs.RuledTexts.{HasNothingUnder, IsMadeUnder, RefusesInText, RefusesMadeUnder}
-use Rattle.ini_dialect.specs.Rules.{default_lookup}
-use Rattle.ini_dialect.specs.SourceLookups.{IsCountingPair}
+use Rattle.ini_edit.specs.declared.error.EditError.TheVariants.{Key, Text as TextError}
+use Rattle.ini_dialect.specs.KeyEdits.{IsCommentedOutUnder, RefusesToCommentOutUnder}
+use Rattle.ini_dialect.specs.RuledTexts.{HasNothingUnder, IsMadeUnder, LacksUnder, RefusesInText}
+use Rattle.ini_dialect.specs.RuledTexts.{RefusesMadeUnder}
+use Rattle.ini_dialect.specs.SectionEdits.{RefusesName, has_fitting}
 use Rattle.ini_dialect.specs.declared.rule.CaseRule.{CaseRule}
 use Rattle.ini_dialect.specs.declared.rule.Lookup.{Lookup}
-use Rattle.ini_dialect.specs.declared.source.PairNumber.{PairNumber}
 use Rattle.ini_words.specs.Words.{Word}
 use Rattle.ini_words.specs.declared.options.Options.{Options}
 use Rattle.ini_file.specs.Remade.{IsRemadeText}
@@ -50,10 +43,6 @@ further_of (edit.AddSection name) = AddSection (str_text name)
 further_of (edit.CommentOut name key) = CommentOut (str_name name) (str_text key)
 further_of (edit.Uncomment name key) = Uncomment (str_name name) (str_text key)
 
--- one of the sections has the name
-abbrev pub has_section : CaseRule → Text → List SectionPiece → Bool
-has_section case name ss = list_any (λ s. name_fits case (Some name) s.name) ss
-
 -- where one has it all stays; else a section is added
 abbrev pub AddsNamed : Bool → WriteOption → Text → Pieces → Pieces → Type 0
 AddsNamed true w name p q = q ≡ p
@@ -61,53 +50,16 @@ AddsNamed false w name p q = (added : Bool) × AddsSection p.option w p q name a
 
 abbrev pub HasSectionText : CaseRule → ParseOption → WriteOption → (name T U : Text) → Type 0
 HasSectionText case o w name T U =
-    IsRemadeText o T U (λ p q. AddsNamed (has_section case name p.sections) w name p q)
+    IsRemadeText o T U (λ p q. AddsNamed (has_fitting case name (document_in p)) w name p q)
 
 -- adding it is refused for its name, whatever the text is; or memory is
 abbrev pub RefusesSection : WriteOption → Text → Pieces → EditError → Type 0
-RefusesSection w name p Name = ¬ IsPlainName p.option w.escape_policy name
-RefusesSection w name p e = IsMemoryRefusal e
+RefusesSection w name p e = RefusesName p.option w.escape_policy name e
 
-module _ (rule : Lookup) (name : Option Text) (key : Text) where
-  -- The pair that counts is the first of the key in the first section of the name, and a comment afterwards.
-  pub record IsCommentedUnder (p q : Pieces) : Type 0 where
-    pub at : PairNumber
-    pub counts : IsCountingPair rule name key (document_in p) at
-    pub is_first : IsCountingPair default_lookup name key (document_in p) at
-    pub commented : IsCommentedOut p.option p q name key
-
-  -- so it is; or there is no such pair, and all stays
-  abbrev pub CommentsOutUnder : Pieces → Pieces → Bool → Type 0
-  CommentsOutUnder p q true = IsCommentedUnder p q
-  CommentsOutUnder p q false =
-      (q ≡ p) × ((value_under rule name key (document_in p) ≡ None)
-      ⊎ (pair_place name key 0 p.sections ≡ None))
-
--- both stand at the same place
-abbrev pub is_same : PairNumber → PairNumber → Bool
-is_same one other = one.section == other.section && one.pair == other.pair
-
--- it is refused where no comment may stand, and where the pair that counts isn't that one
-pub data RefusesToComment (rule : Lookup) (name : Option Text) (key : Text) (p : Pieces)
-    : EditError → Type 0 where
-  no_place : {e : EditError} → RefusesToCommentOut p.option p.sections name key e
-      → RefusesToComment rule name key p e
-  another : {at first : PairNumber} → IsCountingPair rule name key (document_in p) at
-      → IsCountingPair default_lookup name key (document_in p) first → is_same first at ≡ false
-      → RefusesToComment rule name key p NoPlace
-  elsewhere : {at : PairNumber} → IsCountingPair rule name key (document_in p) at
-      → value_under default_lookup name key (document_in p) ≡ None → RefusesToComment rule name key p NoPlace
-
--- the text has no pair that could be made a comment
-pub record LacksCounting (rule : Lookup) (o : ParseOption) (T : Text) (name : Option Text) (key : Text)
-    : Type 0 where
-  pub pieces : Pieces
-  pub is_read : IsReadInPieces o T pieces
-  pub lacks : CommentsOutUnder rule name key pieces pieces false
-
+-- the text U is T, and the pair that counts is a comment
 abbrev pub IsCommentedText : Lookup → ParseOption → Option Text → (key T U : Text) → Type 0
 IsCommentedText rule o name key T U =
-    IsRemadeText o T U (λ p q. IsCommentedUnder rule name key p q)
+    IsRemadeText o T U (λ p q. IsCommentedOutUnder rule name key p q)
 
 -- the text U is T with the edit made in it
 abbrev pub IsFurtherText : Lookup → ParseOption → WriteOption → FurtherEditing → (T U : Text) → Type 0
@@ -122,7 +74,7 @@ abbrev pub HasNothingFurther : Lookup → ParseOption → FurtherEditing → Tex
 HasNothingFurther rule o (DeleteAll name key) T = HasNothingUnder rule o T (Delete name key)
 HasNothingFurther rule o (SetAll name key values) T = ⊥
 HasNothingFurther rule o (AddSection name) T = ⊥
-HasNothingFurther rule o (CommentOut name key) T = LacksCounting rule o T name key
+HasNothingFurther rule o (CommentOut name key) T = LacksUnder rule o T name key
 HasNothingFurther rule o (Uncomment name key) T = FindsComment o rule.case key name T None
 
 -- what it is refused with
@@ -133,7 +85,7 @@ RefusesFurtherText rule o w (SetAll name key values) T e =
     RefusesInText o T (RefusesValues rule w name key values) e
 RefusesFurtherText rule o w (AddSection name) T e = RefusesInText o T (RefusesSection w name) e
 RefusesFurtherText rule o w (CommentOut name key) T e =
-    RefusesInText o T (RefusesToComment rule name key) e
+    RefusesInText o T (RefusesToCommentOutUnder rule name key) e
 RefusesFurtherText rule o w (Uncomment name key) T e = RefusesToUncomment rule o name key T e
 
 -- the bytes are the mark, and after it, in UTF-8, the text T with the edit made in it, written as the options

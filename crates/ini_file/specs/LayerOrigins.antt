@@ -20,9 +20,9 @@ use Rattle.ini_words.specs.Lines.{listed_pair}
 use Rattle.ini_words.specs.Words.{Word}
 use Rattle.ini_file.specs.Edits.{is_own}
 use Rattle.ini_file.specs.Forms.{listing_form}
+use Rattle.ini_file.specs.Layered.{merged_by}
 use Rattle.ini_file.specs.Merges.{AreLoaded, RefusesOther}
 use Rattle.ini_file.specs.Origins.{place_word}
-use Rattle.ini_file.specs.RuledLayers.{merged_by}
 use Rattle.ini_file.specs.declared.layers.LayersEnd.{LayersEnd}
 use Rattle.ini_file.specs.declared.layers.LayersEnd.TheVariants.{Done, File, Refused}
 

@@ -1,19 +1,25 @@
 -- What is written of several files: one document.
-use Rattle.std.specs.Prelude.{◌≡◌, ℕ, List, Some, ⊤, encode_utf8_all}
+use Rattle.std.specs.Prelude.{◌≡◌, Bool, true, false, ℕ, List, Some, ⊤, encode_utf8_all}
 use Rattle.ini_text.specs.declared.error.Error.TheVariants.{Memory}
 use Rattle.ini_text.specs.declared.write.option.WriteOption.{WriteOption}
 use Rattle.ini.specs.Documents.{Document}
 use Rattle.ini.specs.Written.{written}
 use Rattle.ini_edit.specs.declared.error.EditError.TheVariants.{Separator, Text as TextError}
+use Rattle.ini_layers.specs.Layering.{merged}
+use Rattle.ini_dialect.specs.RuledLayers.{all_set, settings_in_layers}
 use Rattle.ini_dialect.specs.declared.rule.Lookup.{Lookup}
 use Rattle.ini_words.specs.Words.{Word}
 use Rattle.ini_words.specs.declared.options.Options.{Options}
 use Rattle.ini_file.specs.Edits.{is_own}
 use Rattle.ini_file.specs.Merges.{AreLoaded, RefusesOther}
-use Rattle.ini_file.specs.RuledLayers.{merged_by}
 use Rattle.ini_file.specs.Writing.{IsWriting, Separates}
 use Rattle.ini_file.specs.declared.layers.LayersEnd.{LayersEnd}
 use Rattle.ini_file.specs.declared.layers.LayersEnd.TheVariants.{Done, File, Refused}
+
+-- by the crate's own rule as `merged` of `ini_layers` has it
+abbrev pub merged_by : Bool → Lookup → List Document → Document
+merged_by true rule layers = merged layers
+merged_by false rule layers = all_set rule (settings_in_layers rule layers)
 
 -- the bytes are the text, in UTF-8, of what the documents in layers make, written as the options say
 pub record IsMergedText (rule : Lookup) (o : Options) (separator : Word) (documents : List Document)

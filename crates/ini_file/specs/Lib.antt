@@ -37,7 +37,6 @@ pub mod Reasons
 pub mod Remade
 pub mod Reports
 pub mod Requests
-pub mod RuledLayers
 pub mod RuledMerges
 pub mod Runs
 pub mod Settings

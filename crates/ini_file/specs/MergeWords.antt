@@ -4,32 +4,40 @@ use Rattle.ini_dialect.specs.declared.rule.Lookup.{Lookup}
 use Rattle.ini_words.specs.Words.{Word}
 use Rattle.ini_words.specs.declared.options.Options.{Options}
 use Rattle.ini_file.specs.Choices.{Chosen, chosen_of}
-use Rattle.ini_file.specs.Fronts.{Called}
+use Rattle.ini_file.specs.Fronts.{Called, call_separator}
 use Rattle.ini_file.specs.declared.merge_words.Merging.{Merging}
 
 -- the file in which is set what the others set, one at least
 pub record Merged : Type 0 where
   pub rule : Lookup
   pub options : Options
+  pub separator : Word
   pub choices : Chosen
   pub file : Word
   pub others : List Word
 
 -- what is merged, where words name the files; None where they name less than two
-abbrev pub files_merged : Lookup → Options → Chosen → List Word → Option Merged
-files_merged rule o c [] = None
-files_merged rule o c (file ∷ []) = None
-files_merged rule o c (file ∷ other ∷ others) =
-    Some (record { rule = rule; options = o; choices = c; file = file; others = other ∷ others })
+abbrev pub files_merged : Called → List Word → Option Merged
+files_merged c [] = None
+files_merged c (file ∷ []) = None
+files_merged c (file ∷ other ∷ others) = Some (record {
+  rule = c.dialect.lookup;
+  options = c.options;
+  separator = call_separator c;
+  choices = c.choices;
+  file = file;
+  others = other ∷ others;
+})
 
 abbrev pub merge_asked : Called → Option Merged
-merge_asked c = files_merged c.dialect.lookup c.options c.choices c.words
+merge_asked c = files_merged c c.words
 
 -- the merge that is kept as borrowed words
 abbrev pub merging_of : Merging → Merged
 merging_of m = record {
   rule = m.rule;
   options = m.options;
+  separator = m.separator.now;
   choices = chosen_of m.choices;
   file = m.file.now;
   others = map string_bytes m.others.now;

@@ -1,5 +1,5 @@
 -- How a merge ends: what other files set, set in a file's text.
-use Rattle.std.specs.Prelude.{◌≡◌, ℕ, false, true, List, [], ◌∷◌, ◌++◌, ⊤, chars, length, map}
+use Rattle.std.specs.Prelude.{◌≡◌, ℕ, false, true, List, [], ◌∷◌, ◌++◌, Some, ⊤, chars, length, map}
 use Rattle.std.specs.Str.{IsUtf8}
 use Rattle.std.specs.declared.alloc.Global.{Global}
 use Rattle.std.specs.declared.vec.Vec.{Vec}
@@ -13,11 +13,12 @@ use Rattle.ini.specs.Loading.{IsDocumentOf, IsStopOf, IsTextWith}
 use Rattle.ini.specs.Texts.{Text}
 use Rattle.ini_edit.specs.declared.edit_list.RefusedEdit.{RefusedEdit}
 use Rattle.ini_dialect.specs.declared.rule.Lookup.{Lookup}
-use Rattle.ini_words.specs.Words.{IsWriteOption}
+use Rattle.ini_words.specs.Words.{Word}
 use Rattle.ini_words.specs.declared.options.Options.{Options}
 use Rattle.ini_file.specs.Bytes.{byte_order_mark_of}
 use Rattle.ini_file.specs.Edits.{is_own}
 use Rattle.ini_file.specs.RuledMerges.{HasSettings, RefusesSettingsBy, settings_by}
+use Rattle.ini_file.specs.Writing.{IsWriting}
 use Rattle.ini_file.specs.declared.merge.MergeEnd.{MergeEnd}
 use Rattle.ini_file.specs.declared.merge.MergeEnd.TheVariants.{Done, Other, File, Edit, GetsMark}
 
@@ -60,11 +61,10 @@ pub record RefusesOther (o : ParseOption) (files : List (List ℕ)) (index : ℕ
 
 -- The bytes are the mark, and after it, in UTF-8, the text T with what the documents set, written as the
 -- options say; where they set nothing T has a document all the same.
-pub record IsMerged (rule : Lookup) (o : Options) (documents : List Document) (byte_order_mark : List ℕ) (T : Text)
-    (bytes : List ℕ)
-    : Type 0 where
+pub record IsMerged (rule : Lookup) (o : Options) (separator : Word) (documents : List Document)
+    (byte_order_mark : List ℕ) (T : Text) (bytes : List ℕ) : Type 0 where
   pub option : WriteOption
-  pub is_option : IsWriteOption o option
+  pub is_option : IsWriting o (Some separator) option
   pub new : List ℕ
   pub whole : bytes ≡ byte_order_mark ++ new
   pub is_utf8 : IsUtf8 new
@@ -75,10 +75,10 @@ pub record IsMerged (rule : Lookup) (o : Options) (documents : List Document) (b
   pub gets_none : byte_order_mark ≡ [] → has_byte_order_mark new ≡ false
 
 -- the file has no mark, and with what the documents set in its text T it would get one
-pub record GetsMarkMerged (rule : Lookup) (o : Options) (documents : List Document) (byte_order_mark : List ℕ) (T : Text)
-    : Type 0 where
+pub record GetsMarkMerged (rule : Lookup) (o : Options) (separator : Word) (documents : List Document)
+    (byte_order_mark : List ℕ) (T : Text) : Type 0 where
   pub option : WriteOption
-  pub is_option : IsWriteOption o option
+  pub is_option : IsWriting o (Some separator) option
   pub new : List ℕ
   pub is_utf8 : IsUtf8 new
   pub are_made : HasSettings (is_own rule) rule o.reading option
@@ -87,30 +87,33 @@ pub record GetsMarkMerged (rule : Lookup) (o : Options) (documents : List Docume
   pub gets : has_byte_order_mark new ≡ true
 
 -- of what the documents set something is refused in the text T
-pub record RefusesMerge (rule : Lookup) (o : Options) (documents : List Document) (T : Text) (refused : RefusedEdit)
-    : Type 0 where
+pub record RefusesMerge (rule : Lookup) (o : Options) (separator : Word) (documents : List Document)
+    (T : Text) (refused : RefusedEdit) : Type 0 where
   pub option : WriteOption
-  pub is_option : IsWriteOption o option
+  pub is_option : IsWriting o (Some separator) option
   pub is_refused : RefusesSettingsBy (is_own rule) rule o.reading option
       (settings_by (is_own rule) rule documents) T refused
 
--- how a merge of documents into a text after a mark ends
-abbrev pub EndsOnText : Lookup → Options → List Document → List ℕ → Text → MergeEnd → Type 0
-EndsOnText rule o documents byte_order_mark T (Done bytes) = IsMerged rule o documents byte_order_mark T bytes.items
-EndsOnText rule o documents byte_order_mark T (Edit refused) = RefusesMerge rule o documents T refused
-EndsOnText rule o documents byte_order_mark T GetsMark = GetsMarkMerged rule o documents byte_order_mark T
-EndsOnText rule o documents byte_order_mark T (File (Parse e)) = IsStopOf o.reading T e
-EndsOnText rule o documents byte_order_mark T (File (Memory _)) = ⊤
-EndsOnText rule o documents byte_order_mark T _ = ⊥
+module _ (rule : Lookup) (o : Options) (separator : Word) where
+  -- how a merge of documents into a text after a mark ends
+  abbrev pub EndsOnText : List Document → List ℕ → Text → MergeEnd → Type 0
+  EndsOnText documents byte_order_mark T (Done bytes) =
+      IsMerged rule o separator documents byte_order_mark T bytes.items
+  EndsOnText documents byte_order_mark T (Edit refused) = RefusesMerge rule o separator documents T refused
+  EndsOnText documents byte_order_mark T GetsMark =
+      GetsMarkMerged rule o separator documents byte_order_mark T
+  EndsOnText documents byte_order_mark T (File (Parse e)) = IsStopOf o.reading T e
+  EndsOnText documents byte_order_mark T (File (Memory _)) = ⊤
+  EndsOnText documents byte_order_mark T _ = ⊥
 
--- the same where other files have these documents, of the file's bytes, which may be no text
-abbrev pub EndsOnBytes : Lookup → Options → List Document → List ℕ → MergeEnd → Type 0
-EndsOnBytes rule o documents input (File NotUtf8) = ¬ (IsUtf8 (without_byte_order_mark input))
-EndsOnBytes rule o documents input end =
-    IsTextWith (λ T. EndsOnText rule o documents (byte_order_mark_of input) T end) (without_byte_order_mark input)
+  -- the same where other files have these documents, of the file's bytes, which may be no text
+  abbrev pub EndsOnBytes : List Document → List ℕ → MergeEnd → Type 0
+  EndsOnBytes documents input (File NotUtf8) = ¬ (IsUtf8 (without_byte_order_mark input))
+  EndsOnBytes documents input end =
+      IsTextWith (λ T. EndsOnText documents (byte_order_mark_of input) T end) (without_byte_order_mark input)
 
--- how a merge of other files into a file ends
-abbrev pub HasMerge : Lookup → Options → List ℕ → List (List ℕ) → MergeEnd → Type 0
-HasMerge rule o input others (Other index e) = RefusesOther o.reading others index e
-HasMerge rule o input others end =
-    (documents : List Document) × AreLoaded o.reading others documents × EndsOnBytes rule o documents input end
+  -- how a merge of other files into a file ends
+  abbrev pub HasMerge : List ℕ → List (List ℕ) → MergeEnd → Type 0
+  HasMerge input others (Other index e) = RefusesOther o.reading others index e
+  HasMerge input others end =
+      (documents : List Document) × AreLoaded o.reading others documents × EndsOnBytes documents input end

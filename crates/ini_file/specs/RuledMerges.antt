@@ -11,10 +11,10 @@ use Rattle.ini_edit.specs.WholeTexts.{IsRefusalOf, MakesText, RefuseInPieces, Re
 use Rattle.ini_edit.specs.declared.edit_list.RefusedEdit.{RefusedEdit}
 use Rattle.ini_edit.specs.declared.error.EditError.{EditError}
 use Rattle.ini_edit.specs.declared.error.EditError.TheVariants.{Text as TextError}
+use Rattle.ini_dialect.specs.RuledLayers.{settings_in_layers}
 use Rattle.ini_dialect.specs.SourceLookups.{IsPutUnder, RefusesToPutUnder}
 use Rattle.ini_dialect.specs.declared.rule.Lookup.{Lookup}
 use Rattle.ini_file.specs.Remade.{IsRemadeText}
-use Rattle.ini_file.specs.RuledLayers.{settings_in_layers}
 use Rattle.ini_file.specs.Settings.{settings_of}
 
 module _ (rule : Lookup) (w : WriteOption) where

@@ -1,14 +1,13 @@
 //! Edits of a text that are none of `ini_edit`'s list: each is made in the text's pieces, under a rule. This
 //! file knows no word of the program.
-ghost use Rattle.std.specs.Prelude.{◌≡◌, IfErr, IfOk, MatchOption, chars};
+ghost use Rattle.std.specs.Prelude.{IfErr, IfOk, MatchOption, chars};
 ghost use Rattle.ini.specs.Texts.{str_name};
 ghost use Rattle.ini_text.specs.Parsing.Items.{string_text};
-ghost use Rattle.ini_file.specs.Further.{CommentsOutUnder, HasNothingFurther, HasSectionText};
-ghost use Rattle.ini_file.specs.Further.{IsCommentedText};
-ghost use Rattle.ini_file.specs.Further.{IsFurtherChanged, IsFurtherText, LacksCounting, RefusesFurther};
-ghost use Rattle.ini_file.specs.Further.{RefusesFurtherText, RefusesSection, RefusesToComment, further_of};
-ghost use Rattle.ini_file.specs.Further.{has_section, is_same};
-ghost use Rattle.ini_dialect.specs.RuledTexts.{RefusesInText};
+ghost use Rattle.ini_dialect.specs.KeyEdits.{RefusesToCommentOutUnder};
+ghost use Rattle.ini_dialect.specs.RuledTexts.{LacksUnder, RefusesInText};
+ghost use Rattle.ini_file.specs.Further.{HasNothingFurther, HasSectionText, IsCommentedText};
+ghost use Rattle.ini_file.specs.Further.{IsFurtherChanged, IsFurtherText, RefusesFurther};
+ghost use Rattle.ini_file.specs.Further.{RefusesFurtherText, RefusesSection, further_of};
 ghost use Rattle.ini_file.specs.ValueLists.{HasValuesText, RefusesValues, texts_in};
 ghost use Rattle.ini_file.specs.Writing.{word_of};
 
@@ -17,8 +16,8 @@ use crate::edit::gets_byte_order_mark;
 use crate::uncomment::uncommented;
 use crate::value_list::set_values;
 use crate::writing::writing;
-use ini_dialect::{CaseRule, Lookup, PairNumber};
-use ini_edit::{Edit, EditError, Source, SourceSection};
+use ini_dialect::{AnyDocument, CaseRule, Lookup};
+use ini_edit::{Edit, EditError, Source};
 use ini_text::{ParseOption, WriteOption};
 use ini_words::Options;
 use std::alloc::Global;
@@ -58,9 +57,8 @@ pub enum FurtherEdit<'a> {
 ///
 /// # Errors
 ///
-/// Those of the calls of pieces; `NoPlace` where the pair that counts isn't the first of its key in the first
-/// section of the name, which alone can be made a comment, and where a comment can't be made a pair; out of
-/// memory; and `Key` where the file has no mark and the new text begins with U+FEFF, which would be its mark.
+/// Those of the calls of pieces; `NoPlace` where a comment can't be made a pair; out of memory; and `Key`
+/// where the file has no mark and the new text begins with U+FEFF, which would be its mark.
 pub fn change_further(
     alloc: Global,
     rule: Lookup,
@@ -156,22 +154,10 @@ fn with_section(
         (RefusesSection write.now (chars name.now))) }
 {
     let mut source = Source::read(alloc, text, read)?;
-    if !has_section(source.sections(), case, name) {
+    if !case.has_section(AnyDocument::Source(&source), Some(name)) {
         source.add_section(alloc, write, name)?;
     }
     Ok(source.to_text(alloc)?)
-}
-
-// Whether there is a section of the name.
-fn has_section(sections: &[SourceSection<'_>], case: CaseRule, name: &str) -> bool
-    ensures { result ≡ has_section case (chars name.now) sections.now }
-{
-    for section in sections {
-        if case.names_fit(Some(name), section.name()) {
-            return true;
-        }
-    }
-    false
 }
 
 // The text in which the pair of the key that counts is a comment; `None` where there is none.
@@ -184,48 +170,15 @@ fn commented_out(
     key: &str,
 ) -> Result<Option<String>, EditError>
     ensures made { IfOk result (λ made. MatchOption made
-        (LacksCounting rule read (chars text.now) (str_name name.entry) (chars key.now))
+        (LacksUnder rule read (chars text.now) (str_name name.entry) (chars key.now))
         (λ new. IsCommentedText rule read (str_name name.entry) (chars key.now) (chars text.now)
         (string_text new))) }
     ensures refused { IfErr result (RefusesInText read (chars text.now)
-        (RefusesToComment rule (str_name name.entry) (chars key.now))) }
+        (RefusesToCommentOutUnder rule (str_name name.entry) (chars key.now))) }
 {
     let mut source = Source::read(alloc, text, read)?;
-    if comment_counting(alloc, rule, &mut source, name, key)? {
+    if rule.comment_out_in_source(alloc, &mut source, name, key)? {
         return Ok(Some(source.to_text(alloc)?));
     }
     Ok(None)
-}
-
-// Makes the pair that counts a comment, where there is one: whether there is. Only the first pair of the key
-// in the first section of the name can be made one.
-fn comment_counting(
-    alloc: Global,
-    rule: Lookup,
-    source: &mut Source<'_>,
-    name: Option<&str>,
-    key: &str,
-) -> Result<bool, EditError>
-    ensures commented { IfOk result (CommentsOutUnder rule (str_name name.entry) (chars key.now)
-        source.old source.new) }
-    ensures refused { IfErr result (RefusesToComment rule (str_name name.entry)
-        (chars key.now) source.old) }
-{
-    let Some(at) = rule.find_in_source(source, name, key) else {
-        return Ok(false);
-    };
-    let Some(first) = Lookup::default().find_in_source(source, name, key) else {
-        return Err(EditError::NoPlace);
-    };
-    if !is_same(first, at) {
-        return Err(EditError::NoPlace);
-    }
-    source.comment_out(alloc, name, key)
-}
-
-// Whether both stand at the same place.
-fn is_same(one: PairNumber, other: PairNumber) -> bool
-    ensures { result ≡ is_same one other }
-{
-    one.section == other.section && one.pair == other.pair
 }

@@ -8,13 +8,12 @@ ghost use Rattle.ini_file.specs.LayerOrigins.{name_at, pair_with_place, section_
 ghost use Rattle.ini_file.specs.Merges.{bytes_of};
 
 use crate::edit::is_own;
-use crate::layers::LayersEnd;
+use crate::layers::{LayersEnd, merged_under};
 use crate::merge::load_all;
 use crate::origins::push_placed_pair;
 use crate::pair_places::places_of_file;
-use crate::ruled_layers::{merged_under, value_or_empty};
 use ini::{Error, Ini, ParseOption, Properties};
-use ini_dialect::Lookup;
+use ini_dialect::{AnyDocument, Lookup};
 use ini_edit::EditError;
 use ini_layers::{Layers, NoLayer};
 use std::alloc::{AllocError, Global};
@@ -165,5 +164,5 @@ fn place_of<'a>(rule: Lookup, places: &'a Ini, name: Option<&str>, key: &str) ->
     if is_own(rule) {
         return places.get_from_or(name, key, "");
     }
-    value_or_empty(rule, places, name, key)
+    rule.get_or_empty(AnyDocument::Ini(places), name, key)
 }

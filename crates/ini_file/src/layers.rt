@@ -1,13 +1,14 @@
 //! One document of several files, as a function of their bytes. This file knows no word of the program and no
 //! device.
-ghost use Rattle.std.specs.Prelude.{IfOk, IsOkUnless, alloc_error};
-ghost use Rattle.ini_file.specs.Layered.{HasLayers, IsMergedText};
+ghost use Rattle.std.specs.Prelude.{◌≡◌, IfOk, IsOkUnless, alloc_error};
+ghost use Rattle.ini_file.specs.Edits.{is_own};
+ghost use Rattle.ini_file.specs.Layered.{HasLayers, IsMergedText, merged_by};
 ghost use Rattle.ini_file.specs.Merges.{bytes_of};
 
+use crate::edit::is_own;
 use crate::merge::load_all;
-use crate::ruled_layers::merged_under;
 use crate::writing::{separates, writing};
-use ini::Error;
+use ini::{Error, Ini};
 use ini_dialect::Lookup;
 use ini_edit::EditError;
 use ini_layers::Layers;
@@ -69,4 +70,16 @@ fn merged_text(
         return Err(Error::Memory(AllocError));
     }
     Ok(bytes)
+}
+
+/// One document of the layers: by the crate's own rule `Layers::merged`'s, under another `Lookup::merged`'s.
+/// Refused only when out of memory.
+pub fn merged_under(alloc: Global, rule: Lookup, layers: &Layers) -> Result<Ini, Error>
+    ensures merged { IfOk result (λ document. document ≡ merged_by (is_own rule) rule layers.now) }
+    ensures only { IsOkUnless result (Error.Memory alloc_error) }
+{
+    if is_own(rule) {
+        return layers.merged();
+    }
+    rule.merged(alloc, layers.as_slice())
 }

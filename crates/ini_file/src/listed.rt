@@ -1,9 +1,7 @@
 //! The names and the keys that are listed of a document under a rule. This file knows no word and no reader.
 ghost use Rattle.std.specs.Prelude.{◌≡◌, IfOk, Some, map};
-ghost use Rattle.std.specs.List.{list_any};
 ghost use Rattle.ini_text.specs.Device.Watched.{IsClear};
 ghost use Rattle.ini.specs.Texts.{str_name};
-ghost use Rattle.ini_dialect.specs.Lookups.{is_named};
 ghost use Rattle.ini_file.specs.Forms.{keys_listed, keys_once, names_by, names_listed};
 ghost use Rattle.ini_words.specs.Prints.{Prints};
 
@@ -111,21 +109,9 @@ fn list_keys_once<W: Write>(
     ensures { Prints W.contents out.old out.new result
         (keys_once rule form (str_name section.entry) document.now) }
 {
-    if !has_section(rule, document, section) {
+    if !rule.case.has_section(AnyDocument::View(document), section) {
         return Ok(false);
     }
     let all = rule.keys(alloc, AnyDocument::View(document), section)?;
     entries(all.as_slice(), form, out)
-}
-
-// Whether there is a section of the name.
-fn has_section(rule: Lookup, document: &View<'_>, section: Option<&str>) -> bool
-    ensures { result ≡ list_any (is_named rule (str_name section.entry)) document.now }
-{
-    for (name, _) in document {
-        if rule.case.names_fit(section, name) {
-            return true;
-        }
-    }
-    false
 }

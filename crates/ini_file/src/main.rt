@@ -65,7 +65,6 @@ mod report;
 mod report_format;
 mod reported;
 mod rights;
-mod ruled_layers;
 mod ruled_merge;
 mod run;
 mod sarif;
@@ -299,8 +298,7 @@ fn no_place_of(command: Command<'_>) -> Option<&'static str> {
 
 // Why a pair can't be made a comment.
 const NO_COMMENT: &str =
-    "this pair can't be made a comment: it doesn't begin its line, or isn't the first of its key in the \
-    first section of the name";
+    "this pair can't be made a comment: it doesn't begin its line, or ends it in CR alone";
 
 // Why a comment can't be made a pair.
 const NO_PAIR: &str =

@@ -8,6 +8,7 @@ ghost use Rattle.ini_file.specs.Merges.{bytes_of};
 use crate::bytes::{concat, text_of};
 use crate::edit::gets_byte_order_mark;
 use crate::ruled_merge::{settings_by, with_settings};
+use crate::writing::writing;
 use ini::{Error, Ini, ParseOption};
 use ini_dialect::Lookup;
 use ini_edit::RefusedEdit;
@@ -32,24 +33,25 @@ pub enum MergeEnd {
 }
 
 /// The file's bytes with what the others set under the rule: for each of them in order, each key in each
-/// section is set to the value that counts there. A mark (EF BB BF) at the front of any is no part
-/// of its text; that of the file stays. All others are read before the file is, which is read too where they
-/// set nothing.
+/// section is set to the value that counts there; the separator stands in new lines where the file has none
+/// to go by. A mark (EF BB BF) at the front of any is no part of its text; that of the file stays. All others
+/// are read before the file is, which is read too where they set nothing.
 pub fn merge(
     alloc: Global,
     rule: Lookup,
     options: Options,
+    separator: &str,
     input: &[u8],
     others: &[Vec<u8>],
 ) -> MergeEnd
-    ensures { HasMerge rule options input.now (bytes_of others.now) result }
+    ensures { HasMerge rule options separator.now input.now (bytes_of others.now) result }
 {
     let documents = match load_all(alloc, options.reading, others) {
         Ok(documents) => documents,
         Err((index, refusal)) => return MergeEnd::Other(index, refusal),
     };
     match text_of(input) {
-        Ok((front, text)) => merge_text(alloc, rule, options, &documents, front, text),
+        Ok((front, text)) => merge_text(alloc, rule, options, separator, &documents, front, text),
         Err(refused) => MergeEnd::File(refused),
     }
 }
@@ -59,11 +61,13 @@ fn merge_text(
     alloc: Global,
     rule: Lookup,
     options: Options,
+    separator: &str,
     documents: &Layers,
     byte_order_mark: &[u8],
     text: &str,
 ) -> MergeEnd
-    ensures { EndsOnText rule options documents.now byte_order_mark.now (chars text.now) result }
+    ensures { EndsOnText rule options separator.now documents.now byte_order_mark.now (chars text.now)
+        result }
 {
     let Ok(edits) = settings_by(alloc, rule, documents) else {
         return MergeEnd::File(Error::Memory(AllocError));
@@ -73,7 +77,10 @@ fn merge_text(
             return MergeEnd::File(refused);
         }
     }
-    let write = options.write_option();
+    let write = match writing(alloc, options, Some(separator)) {
+        Ok(write) => write,
+        Err(refused) => return MergeEnd::File(refused),
+    };
     let new = match with_settings(alloc, rule, text, options.reading, &write, edits.as_slice()) {
         Ok(new) => new,
         Err(refused) => return MergeEnd::Edit(refused),

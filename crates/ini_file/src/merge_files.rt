@@ -61,7 +61,14 @@ fn merge_read(
 ) -> u8 {
     let (read, file) = (merging.options.reading, merging.file);
     let input = old.unwrap_or(&[]);
-    match merge(rt.alloc(), merging.rule, merging.options, input, others) {
+    match merge(
+        rt.alloc(),
+        merging.rule,
+        merging.options,
+        merging.separator,
+        input,
+        others,
+    ) {
         MergeEnd::Done(bytes) => {
             let target = Target::of_merging(*merging);
             match write_output(rt, coding, target, old, bytes.as_slice()) {

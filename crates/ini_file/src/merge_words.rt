@@ -16,6 +16,8 @@ pub struct Merging<'a> {
     pub rule: Lookup,
     /// How the files are read, and the file is written.
     pub options: Options,
+    /// What stands between key and value in new lines, where the file has nothing to go by.
+    pub separator: &'a str,
     /// The options after the command.
     pub choices: Choices<'a>,
     /// The file's name; `-` is standard input.
@@ -35,6 +37,7 @@ pub fn merge_of<'a>(call: Call<'a>) -> Option<Merging<'a>>
     Some(Merging {
         rule: call.dialect.lookup,
         options: call.options,
+        separator: call.separator(),
         choices: call.choices,
         file: file.as_str(),
         others,

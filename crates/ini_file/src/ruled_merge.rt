@@ -9,7 +9,6 @@ ghost use Rattle.ini_file.specs.RuledMerges.{AreSettingsMade, HasSettings, Makes
 ghost use Rattle.ini_file.specs.RuledMerges.{RefusesSetting, RefusesSettings, RefusesSettingsBy, settings_by};
 
 use crate::edit::is_own;
-use crate::ruled_layers::settings_in;
 use crate::settings::settings_of;
 use ini_dialect::Lookup;
 use ini_edit::{Edit, EditError, RefusedEdit, Source, make_edits};
@@ -31,7 +30,7 @@ pub fn settings_by(
     if is_own(rule) {
         settings_of(alloc, documents)
     } else {
-        settings_in(alloc, rule, documents)
+        rule.settings(alloc, documents.as_slice())
     }
 }
 

@@ -64,6 +64,13 @@ impl Layers {
         self.documents.is_empty()
     }
 
+    /// The documents, in order.
+    pub fn as_slice(&self) -> &[Ini]
+        ensures { result.now ≡ self.now }
+    {
+        self.documents.as_slice()
+    }
+
     /// Puts the document last, so that its values count before those of all others.
     ///
     /// Refused, only when out of memory, it hands the document back, and the layers stay as they were.

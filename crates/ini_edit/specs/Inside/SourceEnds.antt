@@ -15,10 +15,12 @@ use Rattle.ini_text.specs.declared.error.Error.TheVariants.{Memory}
 use Rattle.ini_text.specs.Grammar.Places.{TrailingLines}
 use Rattle.ini_text.specs.Grammar.Positions.{last_or}
 use Rattle.ini_text.specs.Inside.LineReader.{past_note}
+use Rattle.ini_text.specs.Escaping.EscapedTexts.{escaped}
 use Rattle.ini_text.specs.Parsing.Fronts.{front_of}
 use Rattle.ini.specs.Texts.{is_text, Text}
 use Rattle.ini_edit.specs.Inside.Spans.{IsPair}
-use Rattle.ini_edit.specs.SourceEdits.{with_pairs}
+use Rattle.ini_edit.specs.Renamed.{HasEdges}
+use Rattle.ini_edit.specs.SourceEdits.{with_key, with_pairs}
 use Rattle.ini_edit.specs.SourceEditsSet.{with_value_before}
 use Rattle.ini_edit.specs.SourceEditsAdd.{GapPlace, Maker}
 use Rattle.ini_edit.specs.declared.source.place.GapPlace.{GapPlace as Found}
@@ -172,7 +174,14 @@ module _ (o : ParseOption) (policy : EscapePolicy) where
         value source
     pub is : new ≡ pair_changed_in (with_value_before o source value p.after) old p
 
-  -- the same, and the later pairs of the key are out
+  -- the pair at the place has another key
+  pub record IsRenamedAt (other : Text) (old new : SectionPiece) (p : Place PairPiece) : Type 0 where
+    pub indent : Text
+    pub pad : Text
+    pub edges : HasEdges o p.here.stretches.key indent pad
+    pub is : new ≡ pair_changed_in (with_key (indent ++ (escaped policy other ++ pad)) other) old p
+
+  -- the pair at the place has the value, and the later pairs of the key are out
   pub record IsSetAlone (front : ℕ) (key value : Text) (old new : SectionPiece)
       (p : Place PairPiece) : Type 0 where
     pub set : SectionPiece

@@ -1,18 +1,21 @@
 //! Edits of a text in pieces at the index of a section, and of a pair in it. This file knows sections by
 //! their calls, and how pairs are written.
-ghost use Rattle.std.specs.Prelude.{◌≡◌, Err, IfErr, IfOk, IsOkUnless, OnErr, OnOk, alloc_error, chars};
-ghost use Rattle.std.specs.Prelude.{false, is_some, true};
+ghost use Rattle.std.specs.Prelude.{◌≡◌, ◌↔◌, Err, IfErr, IfOk, IsOkUnless, OnErr, OnOk, alloc_error};
+ghost use Rattle.std.specs.Prelude.{chars, false, is_some, true};
 ghost use Rattle.std.specs.List.{remove};
-ghost use Rattle.ini_edit.specs.Edited.{IsValueOrMemory};
+ghost use Rattle.ini_edit.specs.Edited.{IsKeyOrMemory, IsValueOrMemory};
 ghost use Rattle.ini_edit.specs.Inside.SourceEnds.{IsPairAt};
-ghost use Rattle.ini_edit.specs.SourceEditsAt.{AddsAtIndex, RefusesAtIndex, SetsAtIndex, at_section};
-ghost use Rattle.ini_edit.specs.SourceEditsAt.{deleted_at_index, indexed_pair};
+ghost use Rattle.ini_edit.specs.Renamed.{IsPlainBareKey};
+ghost use Rattle.ini_edit.specs.SourceEditsAt.{AddsAtIndex, CommentsOutAtIndex, RefusesAtIndex};
+ghost use Rattle.ini_edit.specs.SourceEditsAt.{RefusesToCommentOutAtIndex, RenamesAtIndex, SetsAtIndex};
+ghost use Rattle.ini_edit.specs.SourceEditsAt.{at_section, deleted_at_index, indexed_pair};
 ghost use Rattle.ini_edit.specs.SourceEditsList.{with_sections};
 ghost use Rattle.ini_edit.specs.SourceWritten.{HasForm, IsWritableNew};
 ghost use Rattle.ini_edit.specs.Sources.{document_in};
 ghost use Rattle.ini_edit.specs.declared.error.EditError.TheVariants as EditErrors;
 
 use crate::error::EditError;
+use crate::key::is_plain_bare_key;
 use crate::source::Source;
 use crate::source::add::checked_pair;
 use crate::source::written::{NewPair, is_writable};
@@ -108,6 +111,66 @@ impl<'a> Source<'a> {
         let is_last = section + 1 == count;
         self.sections[section].insert_last(alloc, pair, is_last, end, read)?;
         Ok(true)
+    }
+
+    /// Gives the pair at an index in the section at an index another key: whether there is one. The rest is
+    /// as `rename_key` has it.
+    ///
+    /// # Errors
+    ///
+    /// Those of `rename_key`. Nothing is changed then.
+    pub fn rename_key_at(
+        &mut self,
+        alloc: Global,
+        policy: EscapePolicy,
+        section: usize,
+        pair: usize,
+        key: &str,
+    ) -> Result<bool, EditError>
+        ensures renamed { IfOk result (RenamesAtIndex self.old.option policy self.old self.new section pair
+            (chars key.now)) }
+        ensures unchanged { OnErr result (self.new ≡ self.old) }
+        ensures key { (result ≡ Err EditErrors.Key)
+            ↔ ¬ IsPlainBareKey self.old.option policy (chars key.now) }
+        ensures only { IfErr result IsKeyOrMemory }
+    {
+        if !is_plain_bare_key(key, policy, self.option) {
+            return Err(EditError::Key);
+        }
+        if !self.has_at(section, pair) {
+            return Ok(false);
+        }
+        let read = self.option;
+        self.sections[section].rename_at(alloc, pair, key, policy, read)?;
+        Ok(true)
+    }
+
+    /// Makes the pair at an index in the section at an index a comment: whether there was one. The rest is
+    /// as `comment_out` has it.
+    ///
+    /// # Errors
+    ///
+    /// Those of `comment_out`. Nothing is changed then.
+    pub fn comment_out_at(
+        &mut self,
+        alloc: Global,
+        section: usize,
+        pair: usize,
+    ) -> Result<bool, EditError>
+        ensures commented { IfOk result (CommentsOutAtIndex self.old.option self.old self.new section pair) }
+        ensures unchanged { OnErr result (self.new ≡ self.old) }
+        ensures refused { IfErr result (RefusesToCommentOutAtIndex self.old.option self.old.sections section
+            pair) }
+    {
+        if !self.has_at(section, pair) {
+            return Ok(false);
+        }
+        let read = self.option;
+        let front = self.last_before(section);
+        if self.sections[section].comment_out(alloc, front, pair, read)? {
+            return Ok(true);
+        }
+        Err(EditError::NoPlace)
     }
 
     // Whether there is a pair at the index in the section at the index.

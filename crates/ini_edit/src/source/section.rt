@@ -1,16 +1,18 @@
 //! A section of a text in pieces. This file knows pairs by their calls.
-ghost use Rattle.std.specs.Prelude.{◌≡◌, ◌++◌, [], ◌∷◌, IfOk, IsOkUnless, None, OnErr, OnOk, Some};
-ghost use Rattle.std.specs.Prelude.{MatchOption, alloc_error, chars, map};
+ghost use Rattle.std.specs.Prelude.{◌≡◌, ◌<◌, ◌++◌, [], ◌∷◌, IfOk, IsOkUnless, None, OnErr, OnOk, Some};
+ghost use Rattle.std.specs.Prelude.{MatchOption, alloc_error, chars, length, map};
 ghost use Rattle.std.specs.Option.{option_map};
 ghost use Rattle.ini.specs.Texts.{is_text, str_name, str_text};
 ghost use Rattle.ini.specs.Properties.{first_value, values};
 ghost use Rattle.ini_text.specs.Device.Gathering.{Sends};
 ghost use Rattle.ini_text.specs.Device.Watched.{IsClear};
 ghost use Rattle.ini_text.specs.Parsing.Items.{cow_text, string_text};
+ghost use Rattle.ini_edit.specs.Inside.SourceEnds.{IsPlaceAt, IsRenamedAt};
 ghost use Rattle.ini_edit.specs.Inside.SourceSteps.{HaveOwnSources, IsFirstAt, RenamesIn};
 ghost use Rattle.ini_edit.specs.Sections.{header_of};
 ghost use Rattle.ini_edit.specs.SourceEdits.{blanks_before_note, first_fitting, with_header};
-ghost use Rattle.ini_edit.specs.Sources.{given_pair, pairs_text, section_text};
+ghost use Rattle.ini_edit.specs.SourcePlaces.{Place};
+ghost use Rattle.ini_edit.specs.Sources.{PairPiece, given_pair, pairs_text, section_text};
 
 use crate::append::{push, push_text};
 use crate::escape::push_escaped;
@@ -166,6 +168,25 @@ impl<'a> SourceSection<'a> {
         };
         self.pairs[index].rename(alloc, new, policy, read)?;
         Ok(true)
+    }
+
+    // Gives the pair at the index another key. Refused, the section stays.
+    pub(crate) fn rename_at(
+        &mut self,
+        alloc: Global,
+        index: usize,
+        key: &str,
+        policy: EscapePolicy,
+        read: ParseOption,
+    ) -> Result<(), Error>
+        requires { index < length self.old.pairs }
+        ensures renamed { (p : Place PairPiece) → IsPlaceAt self.old.pairs p index
+            → OnOk result (IsRenamedAt read policy (chars key.now) self.old self.new p) }
+        ensures unchanged { OnErr result (self.new ≡ self.old) }
+        ensures only { IsOkUnless result (Error.Memory alloc_error) }
+    {
+        self.pairs[index].rename(alloc, key, policy, read)?;
+        Ok(())
     }
 
     // Gives the section another name, in a header as the policy writes it. Refused, it stays.

@@ -12,6 +12,7 @@ use std::process::Abort;
 use std::test::Fail;
 
 mod encoding;
+mod layers;
 mod source;
 mod types;
 

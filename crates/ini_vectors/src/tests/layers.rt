@@ -6,7 +6,7 @@ use std::process::Abort;
 use std::test::Fail;
 
 /// The documents of the texts, in order.
-fn layers_of(rt: &(impl Abort + AllocGlobal), texts: &[&'static str]) -> Layers {
+pub(crate) fn layers_of(rt: &(impl Abort + AllocGlobal), texts: &[&'static str]) -> Layers {
     let alloc = rt.alloc();
     let mut layers = Layers::new(alloc);
     for text in texts {

@@ -11,16 +11,16 @@ returns-in_err-source-clause-refused c =
     rw (e.1, e.2)
     (RefusesInText.reading (refusal_of _ _ c.in_err-source.field-0.0 refused.only refused.fault))
 
-pub returns-in_err-comment_counting-clause-refused : goal.returns-in_err-comment_counting-clause-refused
-returns-in_err-comment_counting-clause-refused c =
-    let r = c.from_residual-in_err-comment_counting in
+pub returns-in_err-comment_out_in_source-clause-refused : goal.returns-in_err-comment_out_in_source-clause-refused
+returns-in_err-comment_out_in_source-clause-refused c =
+    let r = c.from_residual-in_err-comment_out_in_source in
     let e = err_from_is_err_and r.result r.ensures.1 in
     let read = c.in_ok-source.ensures in
     rw (e.1, e.2)
     (RefusesInText.pieces (record {
       pieces = c.in_ok-source.source;
       is_read = read_in_pieces read.option read.text read.placed read.document;
-      refused = c.in_err-comment_counting.ensures.refused;
+      refused = c.in_err-comment_out_in_source.ensures.refused;
     }))
 
 pub returns-in_err-to_text-clause-refused : goal.returns-in_err-to_text-clause-refused

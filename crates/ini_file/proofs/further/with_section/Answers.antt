@@ -3,7 +3,7 @@ use Rattle.std.proofs.lemmas.Result.{err_from_is_err_and}
 use Rattle.ini_edit.proofs.WholeTextLemmas.{read_in_pieces}
 use Rattle.ini_edit.proofs.WholeTextRefusalLemmas.{refusal_of}
 use Rattle.ini_dialect.specs.RuledTexts.{RefusesInText}
-use Rattle.ini_file.proofs.FurtherLemmas.{named_refused}
+use Rattle.ini_dialect.proofs.RuledTextLemmas.{refuses_name}
 use Rattle.ini_file.proofs.further.with_section.Goals as goal
 
 pub returns-in_err-source-clause-refused : goal.returns-in_err-source-clause-refused
@@ -22,8 +22,8 @@ returns-in_err-add_section-clause-refused c =
     (RefusesInText.pieces (record {
       pieces = c.in_ok-source.source;
       is_read = read_in_pieces read.option read.text read.placed read.document;
-      refused = named_refused c.args.write.now (chars c.args.name.now) c.in_ok-source.source
-          c.in_err-add_section.field-0.0 c.in_err-add_section.ensures.only
+      refused = refuses_name c.in_ok-source.source.option c.args.write.now.escape_policy
+          (chars c.args.name.now) c.in_err-add_section.field-0.0 c.in_err-add_section.ensures.only
           (λ is. c.in_err-add_section.ensures.name.0 (ap Err is));
     }))
 

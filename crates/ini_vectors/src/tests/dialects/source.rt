@@ -47,7 +47,8 @@ fn a_text_in_pieces_is_looked_up_by_the_rule(rt: HostRuntime) {
     assert!(rt; none.is_none());
 }
 
-/// Makes a call of the pieces, and answers whether it found something. What is to be set is `v`.
+/// Makes a call of the pieces, and answers whether it found something. What is to be set is `v`, another key
+/// is `x`.
 fn edited(
     alloc: Global,
     lookup: Lookup,
@@ -71,6 +72,8 @@ fn edited(
         )?),
         "delete_section" => Ok(lookup.delete_section_in_source(alloc, source, name)?),
         "rename_section" => lookup.rename_section_in_source(alloc, policy, source, name, key),
+        "rename_key" => lookup.rename_key_in_source(alloc, policy, source, Some(name), key, "x"),
+        "comment_out" => lookup.comment_out_in_source(alloc, source, Some(name), key),
         _ => Ok(lookup.delete_in_source(alloc, source, Some(name), key)?),
     }
 }
@@ -83,7 +86,7 @@ const PIECES: [(
     &'static str,
     &'static str,
     Option<&'static str>,
-); 21] = [
+); 28] = [
     (
         "ffk",
         "set",
@@ -201,6 +204,43 @@ const PIECES: [(
         Some("# top\n[A]\nk = 1\n# two\nk=\"2\"\n\n[A]\n  K=3\n[A]\nk=4\n"),
     ),
     ("jli", "rename_section", "b", "a", None),
+    (
+        "fli",
+        "rename_key",
+        "A",
+        "K",
+        Some("# top\n[a]\nx = 1\n# two\nx=\"2\"\n\n[A]\n  K=3\n[a]\nk=4\n"),
+    ),
+    (
+        "jlk",
+        "rename_key",
+        "a",
+        "k",
+        Some("# top\n[a]\nx = 1\n# two\nx=\"2\"\n\n[A]\n  K=3\n[a]\nx=4\n"),
+    ),
+    (
+        "jfi",
+        "rename_key",
+        "a",
+        "K",
+        Some("# top\n[a]\nx = 1\n# two\nx=\"2\"\n\n[A]\n  x=3\n[a]\nx=4\n"),
+    ),
+    ("jlk", "rename_key", "a", "K", None),
+    (
+        "flk",
+        "comment_out",
+        "a",
+        "k",
+        Some("# top\n[a]\nk = 1\n# two\n; k=\"2\"\n\n[A]\n  K=3\n[a]\nk=4\n"),
+    ),
+    (
+        "jli",
+        "comment_out",
+        "A",
+        "K",
+        Some("# top\n[a]\nk = 1\n# two\nk=\"2\"\n\n[A]\n  K=3\n[a]\n; k=4\n"),
+    ),
+    ("jli", "comment_out", "a", "x", None),
 ];
 
 /// Makes the edit of the pieces.
@@ -233,6 +273,48 @@ fn one_pair_is_set_and_all_that_are_looked_at_go(rt: HostRuntime) -> Result<(), 
     Ok(())
 }
 
+#[test]
+fn each_pair_that_is_looked_at_is_found(rt: HostRuntime) -> Result<(), Fail> {
+    let source = read(&rt);
+    for (letters, name, key, want) in [
+        ("jfi", "A", "k", [(1, 0), (1, 1), (2, 0), (3, 0)].as_slice()),
+        ("jlk", "a", "k", &[(1, 0), (1, 1), (3, 0)]),
+        ("flk", "a", "k", &[(1, 0), (1, 1)]),
+        ("jlk", "a", "x", &[]),
+    ] {
+        let lookup = rule(&rt, letters);
+        let found = lookup.find_all_in_source(rt.alloc(), &source, Some(name), key)?;
+        let mut numbers = Vec::new(rt.alloc());
+        for (section, pair) in want {
+            numbers.push(PairNumber {
+                section: *section,
+                pair: *pair,
+            })?;
+        }
+        assert!(rt; found == numbers, "{letters} {name} {key}");
+    }
+    Ok(())
+}
+
+#[test]
+fn what_cannot_be_written_changes_nothing(rt: HostRuntime) -> Result<(), Fail> {
+    let alloc = rt.alloc();
+    let lookup = rule(&rt, "jfk");
+    let mut source = read(&rt);
+    let policy = WriteOption::default().escape_policy;
+    for key in ["k", "lacking"] {
+        let renamed = lookup.rename_key_in_source(alloc, policy, &mut source, Some("a"), key, " x");
+        assert!(rt; matches!(renamed, Err(EditError::Key)), "{key}");
+    }
+    assert_eq!(rt; source.to_text(alloc)?.as_str(), TEXT);
+    let text = "[a]\nk=1\n[A] K=3\n";
+    let mut behind = Source::read(alloc, text, ParseOption::default())?;
+    let commented = lookup.comment_out_in_source(alloc, &mut behind, Some("A"), "K");
+    assert!(rt; matches!(commented, Err(EditError::NoPlace)));
+    assert_eq!(rt; behind.to_text(alloc)?.as_str(), text);
+    Ok(())
+}
+
 /// The edit that a call is.
 fn edit_of<'a>(call: &str, key: &'a str) -> Edit<'a> {
     let (name, value) = (Some("a"), "v");
@@ -242,6 +324,11 @@ fn edit_of<'a>(call: &str, key: &'a str) -> Edit<'a> {
         "add" => Edit::Add { name, key, value },
         "delete" => Edit::Delete { name, key },
         "delete_section" => Edit::DeleteSection { name: key },
+        "rename_key" => Edit::RenameKey {
+            name,
+            old: key,
+            new: "x",
+        },
         _ => Edit::RenameSection { old: "a", new: key },
     }
 }
@@ -252,7 +339,7 @@ const TEXTS: [(
     &'static str,
     &'static str,
     Option<&'static str>,
-); 9] = [
+); 11] = [
     (
         "jlk",
         "set",
@@ -287,6 +374,13 @@ const TEXTS: [(
     ),
     ("jlk", "delete_section", "a", Some("# top\n[A]\n  K=3\n")),
     ("jlk", "delete_section", "b", None),
+    (
+        "jfk",
+        "rename_key",
+        "k",
+        Some("# top\n[a]\nx = 1\n# two\nx=\"2\"\n\n[A]\n  K=3\n[a]\nx=4\n"),
+    ),
+    ("jfk", "rename_key", "x", None),
 ];
 
 #[test]
@@ -301,6 +395,17 @@ fn an_edit_of_a_whole_text_goes_by_the_rule(rt: HostRuntime) -> Result<(), Fail>
 }
 
 #[test]
+fn another_key_that_cannot_be_written_is_refused(rt: HostRuntime) {
+    let (read, write) = (ParseOption::default(), WriteOption::default());
+    let (name, new) = (Some("a"), " x");
+    for old in ["k", "lacking"] {
+        let edit = Edit::RenameKey { name, old, new };
+        let made = rule(&rt, "jlk").make_edit(rt.alloc(), TEXT, read, &write, edit);
+        assert!(rt; matches!(made, Err(EditError::Key)), "{old}");
+    }
+}
+
+#[test]
 fn a_text_that_reading_refuses_is_not_edited(rt: HostRuntime) {
     let (name, key, value) = (None, "k", "v");
     let (read, write) = (ParseOption::default(), WriteOption::default());
@@ -309,6 +414,11 @@ fn a_text_that_reading_refuses_is_not_edited(rt: HostRuntime) {
         Edit::SetExisting { name, key, value },
         Edit::Add { name, key, value },
         Edit::Delete { name, key },
+        Edit::RenameKey {
+            name,
+            old: key,
+            new: value,
+        },
         Edit::DeleteSection { name: key },
         Edit::RenameSection {
             old: key,

@@ -6,7 +6,7 @@ use Rattle.ini.specs.Texts.{str_name}
 use Rattle.ini_edit.specs.Inside.SourceEnds.{end_put_at}
 use Rattle.ini_text.specs.Options.WriteOptions.{line_end}
 use Rattle.ini_edit.specs.SourceEditsComments.{IsCommented, RefusesComment, comment_put}
-use Rattle.ini_edit.specs.SourcePlaces.{section_exchanged}
+use Rattle.ini_edit.specs.SourcePlaces.{pair_place, section_exchanged}
 use Rattle.ini_edit.specs.Sources.{Pieces}
 use Rattle.ini_edit.specs.declared.error.EditError.TheVariants.{NoPlace}
 use Rattle.ini_edit.proofs.SourceCommentLemmas.{comment_made, comment_sections, comment_there, pair_read}
@@ -29,18 +29,18 @@ returns-in_default-new-clause-refused c =
     let name = str_name c.args.name in
     let key = chars c.args.key.now in
     let comment = chars c.args.comment.now in
-    let there = pair_there name key c.self.view_is c.in-Some.ensures in
+    let there = pair_there (pair_place name key 0) c.self.view_is c.in-Some.ensures in
     let x = c.index.result.now in
     let put = comment_put c.self.inside.option (line_end c.line_end-end.result) comment
     c.last_before-front.result x there.place.pair in
     let none = subst (λ n. MatchOption n (put ≡ None) (λ e. put ≡ Some (end_put_at e c.in-Some.pair x)))
     c.in_default-new.is
     (c.in_ok-new.ensures.put there.place.pair
-    (pair_read name key c.self.view_is c.in-Some.ensures c.index.ensures)) in
+    (pair_read (pair_place name key 0) c.self.view_is c.in-Some.ensures c.index.ensures)) in
     subst (λ v. RefusesComment v.option c.args.write.now v.sections name key comment NoPlace) c.self.view_is
     (RefusesComment.no_place_bare (c.is_comment_text.ensures.0 c.if-not-is_comment_text.false) there.is
     (ap (option_map (section_exchanged there.place))
-    (comment_there name key c.self.view_is c.in-Some.ensures c.index.ensures c.args.write.now comment
+    (comment_there (pair_place name key 0) c.self.view_is c.in-Some.ensures c.index.ensures c.args.write.now comment
     c.last_before-front.ensures c.line_end-end.ensures none)))
 
 pub invariant_of-self : goal.invariant_of-self
@@ -48,21 +48,21 @@ invariant_of-self c =
     let name = str_name c.args.name in
     let key = chars c.args.key.now in
     let comment = chars c.args.comment.now in
-    let there = pair_there name key c.self.view_is c.in-Some.ensures in
+    let there = pair_there (pair_place name key 0) c.self.view_is c.in-Some.ensures in
     let x = c.index.result.now in
     let put = comment_put c.self.inside.option (line_end c.line_end-end.result) comment
     c.last_before-front.result x there.place.pair in
     let is = subst (λ n. MatchOption n (put ≡ None) (λ e. put ≡ Some (end_put_at e c.in-Some.pair x)))
     c.in-Some-new.is
     (c.in_ok-new.ensures.put there.place.pair
-    (pair_read name key c.self.view_is c.in-Some.ensures c.index.ensures)) in
+    (pair_read (pair_place name key 0) c.self.view_is c.in-Some.ensures c.index.ensures)) in
     let new = is ∙ ap (λ s. Some (end_put_at c.in-Some-new.new c.in-Some.pair s))
-    (section_read name key c.self.view_is c.in-Some.ensures c.index.ensures
-    ∙ sym (section_read name key c.self.view_is c.in-Some.ensures c.index_mut.ensures.value))
+    (section_read (pair_place name key 0) c.self.view_is c.in-Some.ensures c.index.ensures
+    ∙ sym (section_read (pair_place name key 0) c.self.view_is c.in-Some.ensures c.index_mut.ensures.value))
     ∙ ap Some (sym c.put_new_end.ensures) in
     comment_sections c.self.inside.option c.args.write.now c.self.inside.sections.items name key there comment
     (c.is_comment_text.ensures.0 c.if-not-is_comment_text.false)
-    (comment_there name key c.self.view_is c.in-Some.ensures c.index.ensures c.args.write.now comment
+    (comment_there (pair_place name key 0) c.self.view_is c.in-Some.ensures c.index.ensures c.args.write.now comment
     c.last_before-front.ensures c.line_end-end.ensures new) c.self.invariant
 
 pub returns-clause-set : goal.returns-clause-set
@@ -70,17 +70,17 @@ returns-clause-set c =
     let name = str_name c.args.name in
     let key = chars c.args.key.now in
     let comment = chars c.args.comment.now in
-    let there = pair_there name key c.self.view_is c.in-Some.ensures in
+    let there = pair_there (pair_place name key 0) c.self.view_is c.in-Some.ensures in
     let x = c.index.result.now in
     let put = comment_put c.self.inside.option (line_end c.line_end-end.result) comment
     c.last_before-front.result x there.place.pair in
     let is = subst (λ n. MatchOption n (put ≡ None) (λ e. put ≡ Some (end_put_at e c.in-Some.pair x)))
     c.in-Some-new.is
     (c.in_ok-new.ensures.put there.place.pair
-    (pair_read name key c.self.view_is c.in-Some.ensures c.index.ensures)) in
+    (pair_read (pair_place name key 0) c.self.view_is c.in-Some.ensures c.index.ensures)) in
     let new = is ∙ ap (λ s. Some (end_put_at c.in-Some-new.new c.in-Some.pair s))
-    (section_read name key c.self.view_is c.in-Some.ensures c.index.ensures
-    ∙ sym (section_read name key c.self.view_is c.in-Some.ensures c.index_mut.ensures.value))
+    (section_read (pair_place name key 0) c.self.view_is c.in-Some.ensures c.index.ensures
+    ∙ sym (section_read (pair_place name key 0) c.self.view_is c.in-Some.ensures c.index_mut.ensures.value))
     ∙ ap Some (sym c.put_new_end.ensures) in
     let after : Pieces = record {
       option = c.self.inside.option;
@@ -89,5 +89,5 @@ returns-clause-set c =
     subst (λ v. IsCommented v.option c.args.write.now v after name key comment) c.self.view_is
     (comment_made c.self.inside.option c.args.write.now c.self.inside.sections.items name key there comment
     (c.is_comment_text.ensures.0 c.if-not-is_comment_text.false)
-    (comment_there name key c.self.view_is c.in-Some.ensures c.index.ensures c.args.write.now comment
+    (comment_there (pair_place name key 0) c.self.view_is c.in-Some.ensures c.index.ensures c.args.write.now comment
     c.last_before-front.ensures c.line_end-end.ensures new))

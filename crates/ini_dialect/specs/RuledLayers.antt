@@ -1,9 +1,8 @@
 -- The document that is made of documents in layers under a rule.
-use Rattle.std.specs.Prelude.{Bool, true, false, List, [], ◌∷◌, flat_map, fold, map, Option, None, unwrap_or}
+use Rattle.std.specs.Prelude.{List, [], ◌∷◌, flat_map, fold, map, Option, None, unwrap_or}
 use Rattle.ini.specs.Documents.{Document}
 use Rattle.ini.specs.Texts.{Text}
 use Rattle.ini_edit.specs.Editings.{Editing, Set}
-use Rattle.ini_layers.specs.Layering.{merged}
 use Rattle.ini_dialect.specs.Lookups.{keys_under, names_under, set_under, value_under}
 use Rattle.ini_dialect.specs.declared.rule.Lookup.{Lookup}
 
@@ -30,8 +29,3 @@ with_setting rule d _ = d
 -- one after another they go over a general section without pairs
 abbrev pub all_set : Lookup → List Editing → Document
 all_set rule edits = fold (with_setting rule) ((None, []) ∷ []) edits
-
--- by the crate's own rule as `merged` of `ini_layers` has it
-abbrev pub merged_by : Bool → Lookup → List Document → Document
-merged_by true rule layers = merged layers
-merged_by false rule layers = all_set rule (settings_in_layers rule layers)

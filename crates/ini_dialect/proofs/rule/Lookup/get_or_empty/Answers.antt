@@ -1,6 +1,6 @@
 use Rattle.std.proofs.Common.{◌∙◌, [], ap, unwrap_or}
 use Rattle.std.proofs.lemmas.Str.{chars-nil}
-use Rattle.ini_file.proofs.ruled_layers.value_or_empty.Goals as goal
+use Rattle.ini_dialect.proofs.rule.Lookup.get_or_empty.Goals as goal
 
 pub returns-in-Some : goal.returns-in-Some
 returns-in-Some c = ap (λ o. unwrap_or o []) c.in-Some.ensures
