@@ -62,6 +62,7 @@ escapes() { awk -v n="$1" 'BEGIN { printf "k = "; for (i = 0; i < n; i++) printf
 notes() { awk -v n="$1" 'BEGIN { for (i = 0; i < n; i++) printf "key%d = value ; note %d\n", i, i }'; }
 # and beside them, in `other`, the same with each hundredth value changed
 compared() { pairs "$1" && pairs "$1" | awk 'NR % 100 == 0 { $0 = $0 "!" } 1' >"$room/other"; }
+joined() { repeated "$1" && repeated $(($1 + 1)) >"$room/other"; }
 marks() { awk -v n="$1" 'BEGIN { printf "k = "; for (i = 0; i < n; i++) printf "a;b\\;"; print "" }'; }
 
 doubles 'pairs of one section' 0 pairs 20000 fmt
@@ -82,6 +83,8 @@ doubles 'separators below each other' 0 pairs 4000 format --align -
 doubles 'pairs sorted by key' 0 pairs 4000 format --sort keys -
 doubles 'sections sorted by name' 0 sections 4000 format --sort sections -
 doubles 'what differs' 1 compared 4000 diff - "$room/other"
+doubles 'what differs, by a rule' 1 compared 4000 --like git diff - "$room/other"
+doubles 'what differs where sections are joined' 1 joined 4000 --like git diff - "$room/other"
 own=$own_of_tool tool=$of_texts
 grows_no_faster 'items' pairs 20000 items
 grows_no_faster 'elements' pairs 20000 elements

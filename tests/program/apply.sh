@@ -42,6 +42,11 @@ done <<'ROWS'
 |\tk\t-1\t+2\n\tk\t-2\t+3\n|k=1\n|0|k=3\n|
 |\tk\t-1\t+a\\tb\n|k=1\n|0|k=a\\tb\n|
 |\0357\0273\0277\tk\t-1\t+2\n|\0357\0273\0277k=1\r\n|0|\0357\0273\0277k=2\r\n|
+--like=git|[a]\tk\t-1\t+2\n|[A]\nK=1\nk=7\n[a]\nj=1\n|0|[A]\nK=1\nk=2\n[a]\nj=1\n|
+--like=git|[a]\tk\t-1\t\n|[A]\nK=1\nj=2\n[a]\nk=7\n|0|[A]\nj=2\n[a]\n|
+--like=git|[b]\tk\t\t+2\n|[a]\nj=1\n|0|[a]\nj=1\n\n[b]\nk=2\n|
+--like=git|[b]\tk\t\t+2\n||0|[b]\nk = 2\n|
+--like=windows|[a]\tk\t-1\t+2\n|[a]\r\nk=1\r\nK=3\r\n|0|[a]\r\nk=2\r\nK=3\r\n|
 --reverse|\tk\t-1\t+2\n|k = 2\n|0|k = 1\n|
 --reverse|\tk\t-1\t+2\n\tk\t-2\t+3\n|k = 3\n|0|k = 1\n|
 --reverse|[a]\tk\t\t+1\n|[a]\nk=1\nj=2\n|0|[a]\nj=2\n|

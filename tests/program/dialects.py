@@ -4,8 +4,9 @@
 
 NAME is git, which `git config` reads, python, which configparser reads, php, which php reads, desktop, which GLib's GKeyFile
 reads by READER, the program of key_file.c, or crudini, whose files are read like python's. Each value that these find in a text
-is asked of INI_FILE --like NAME, and each key that isn't there. Then each is set by INI_FILE, deleted, and its key renamed, and a key is set that isn't there; each section is
-deleted, renamed, and the target of a merge: the reader finds just that change.
+is asked of INI_FILE --like NAME, and each key that isn't there. Then each is set by INI_FILE, deleted, and its key renamed, and a key is
+set that isn't there; each section is deleted, renamed, and the target of a merge; and a value that one side of a three-way merge
+set stands beside a key of the other: the reader finds just that change.
 Each difference is a line, then the number of texts; the status is 1 where there is one.
 """
 import configparser
@@ -285,6 +286,26 @@ def count_edits(text):
     return wrong
 
 
+def count_merges(text):
+    """How many merges of three texts go wrong, of which one sets a value and another has a new key; and edits applied."""
+    old = values(text)
+    wrong = 0
+    for section, key in old:
+        for side in ("base", "ours", "theirs"):
+            pathlib.Path(side).write_bytes(text.encode())
+        steps = [told("set", "ours", key, "v2", section), told("set", "theirs", "new", "v3", section)]
+        steps.append(told("merge3", "base", "ours", "theirs", "--output", "both"))
+        pathlib.Path("edits").write_bytes(told("diff", "--format", "edits", "base", "ours")[1].encode() + b"\n")
+        steps.append(told("apply", "theirs", "edits"))
+        wanted = old | {(section, key): "v2", (section, "new"): "v3"}
+        for file in ("both", "theirs"):
+            said = values(pathlib.Path(file).read_bytes().decode())
+            if said != wanted or any(status for status, _ in steps):
+                wrong += 1
+                print(f"{text!r}: {key} of {section} set and a key beside it: {file} says {said}, and not {wanted}; {steps}")
+    return wrong
+
+
 def main():
     differences = 0
     texts = [line.encode("latin-1", "backslashreplace").decode("unicode_escape") if line.isascii() else
@@ -300,7 +321,7 @@ def main():
         if told("get", "y", "lacking", "a")[0] != 1:
             differences += 1
             print(f"{text!r}: a key that isn't there")
-        differences += count_edits(text)
+        differences += count_edits(text) + count_merges(text)
     print(len(texts), "texts")
     return differences > 0
 

@@ -36,6 +36,12 @@ differ <<'ROWS'
 |k=1\nk=2\n[a]\nj=1\n[a]\nj=2\n|k=1\nk=3\n[a]\nj=1\n|
 |\0357\0273\0277k=1\n|k=1\n|
 |k=\0303\0251\n|k=e\n|k: \0303\0251 -> e\n
+--like=git|[a]\nk=1\n[A]\nK=2\n|[a]\nk=2\n|
+--like=git|[a]\nK=1\n[a "B"]\nk=1\n|[A]\nk=2\nj=3\n[a "b"]\nk=1\n|[a] k: 1 -> 2\n+ [a] j: 3\n
+--like=git|[a]\nk=1\n[b]\nj=1\n[a]\nk=2\ni=3\n|[b]\nj=1\n|- [a] k: 2\n- [a] i: 3\n
+--like=windows|[A]\nKey=1\nkey=2\n[a]\nj=2\n|[a]\nKEY=1\n|
+--like=windows|[a]\n[A]\nj=2\n|[a]\nJ=2\n|+ [a] j: 2\n
+--like=systemd|[Unit]\nAfter=a\nafter=c\nAfter=b\n|[Unit]\nAfter=b\nafter=d\n|[Unit] after: c -> d\n
 ROWS
 
 # Worked out by hand. A row is words, three texts, the status, the merged text, and what is reported.
@@ -60,6 +66,11 @@ done <<'ROWS'
 |k=1\n||k=3\nj=1\n|1|; ours has none\n; theirs: 3\nk=3\nj=1\n|conflict: k: base = 1, ours has none, theirs = 3\nnote: k: base.ini:1:1, theirs.ini:1:1\n
 |[a]\nk=1\n|[a]\nk=2\n|[a]\r\n# c\r\nk=3\r\n|1|[a]\r\n# c\r\n; ours: 2\r\n; theirs: 3\r\nk=2\r\n|conflict: [a] k: base = 1, ours = 2, theirs = 3\nnote: [a] k: base.ini:2:1, ours.ini:2:1, theirs.ini:3:1\n
 |k=1\nj=1\ni=1\n|k=2\nj=2\ni=2\n|i=1\nj=3\nk=4\n|1|i=2\n; ours: 2\n; theirs: 3\nj=2\n; ours: 2\n; theirs: 4\nk=2\n|conflict: k: base = 1, ours = 2, theirs = 4\nconflict: j: base = 1, ours = 2, theirs = 3\nnote: k: base.ini:1:1, ours.ini:1:1, theirs.ini:3:1\nnote: j: base.ini:2:1, ours.ini:2:1, theirs.ini:2:1\n
+--like=git|[a]\nk=1\n[a]\nk=2\n|[a]\nk=1\n[a]\nk=3\n|; c\n[A]\nK=1\n[A]\nk = 2\n|0|; c\n[A]\nK=1\n[A]\nk = 3\n|
+--like=git|[a]\nk=1\n[a]\nk=2\n|[a]\n|[a]\nj=1\nk=1\n[A]\nK=2\n|0|[a]\nj=1\n[A]\n|
+--like=git|[a]\nk=1\n|[a]\nk=1\nj=2\n|[b]\ni=1\n[a]\nk=1\n[b]\n|0|[b]\ni=1\n[a]\nk=1\nj=2\n[b]\n|
+--like=git|[a]\nk=1\n|[a]\nk=2\n|[a]\nk=0\n[A]\n; c\nK=3\n|1|[a]\nk=0\n[A]\n; c\n; ours: 2\n; theirs: 3\nK=2\n|conflict: [a] k: base = 1, ours = 2, theirs = 3\nnote: [a] k: base.ini:2:1, ours.ini:2:1, theirs.ini:5:1\n
+--like=git|[a]\nk=1\n|[a]\n|[a]\nk=2\nk=3\n|1|[a]\nk=2\n; ours has none\n; theirs: 3\nk=3\n|conflict: [a] k: base = 1, ours has none, theirs = 3\nnote: [a] k: base.ini:2:1, theirs.ini:3:1\n
 --ours|[a]\nk=1\n|[a]\nk=2\n|[a]\nk = 3\n|1|[a]\nk = 2\n|conflict: [a] k: base = 1, ours = 2, theirs = 3\nnote: [a] k: base.ini:2:1, ours.ini:2:1, theirs.ini:2:1\n
 --theirs|[a]\nk=1\n|[a]\nk=2\n|[a]\nk = 3\n|1|[a]\nk = 3\n|conflict: [a] k: base = 1, ours = 2, theirs = 3\nnote: [a] k: base.ini:2:1, ours.ini:2:1, theirs.ini:2:1\n
 --ours --theirs|k=1\n||k=3\nj=1\n|1|k=3\nj=1\n|conflict: k: base = 1, ours has none, theirs = 3\nnote: k: base.ini:1:1, theirs.ini:1:1\n

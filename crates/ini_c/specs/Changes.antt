@@ -2,10 +2,12 @@
 use Rattle.std.specs.Prelude.{ℕ, Bool, true, false, List, [], ◌∷◌, fold, Option, Some, None, ⊤}
 use Rattle.ini.specs.Documents.{Document}
 use Rattle.ini.specs.Texts.{Text}
+use Rattle.ini_dialect.specs.Flattened.{flattened}
+use Rattle.ini_dialect.specs.Rules.{default_lookup}
 use Rattle.ini_edit.specs.Sources.{Pieces, document_in}
 use Rattle.ini_edit.specs.declared.error.EditError.{EditError}
 use Rattle.ini_layers.specs.Differences.{SettingChange, difference}
-use Rattle.ini_layers.specs.Merging.{SettingConflict, conflicts_of, taken_changes}
+use Rattle.ini_layers.specs.Merging.{SettingConflict, conflicts_of, taken_under}
 use Rattle.ini_layers.specs.SourceChanges.{RefusesOne}
 use Rattle.ini_layers.specs.declared.merging.Side.{Side}
 use Rattle.ini_layers.specs.declared.merging.Side.TheVariants.{Ours, Theirs}
@@ -46,13 +48,18 @@ AreChangesGiven bytes counts = AreTextsGiven bytes counts × AreChanges (texts_g
 abbrev pub changes_given : List ℕ → List ℕ → List SettingChange
 changes_given bytes counts = changes_of (texts_given bytes counts)
 
+-- the conflicts of two documents with their base, where a setting has its first value in the first section
+abbrev pub conflicts_between : (base ours theirs : Document) → List SettingConflict
+conflicts_between base ours theirs = conflicts_of (flattened default_lookup base)
+    (flattened default_lookup ours) (flattened default_lookup theirs)
+
 -- the difference of two documents, and the conflicts of two with their base, where all are there
 abbrev pub difference_in : Option Document → Option Document → Option (List SettingChange)
 difference_in (Some from) (Some to) = Some (difference from to)
 difference_in _ _ = None
 
 abbrev pub conflicts_in : (base ours theirs : Option Document) → Option (List SettingConflict)
-conflicts_in (Some base) (Some ours) (Some theirs) = Some (conflicts_of base ours theirs)
+conflicts_in (Some base) (Some ours) (Some theirs) = Some (conflicts_between base ours theirs)
 conflicts_in _ _ _ = None
 
 abbrev pub side_if : Bool → Side
@@ -68,11 +75,11 @@ Merges P _ _ _ _ = ⊥
 -- making the changes in the pieces, by an option that the choice asks for, is refused at this index so
 abbrev pub RefusesAt : WriteChoice → Pieces → List SettingChange → ℕ → EditError → Type 0
 RefusesAt choice p changes index e =
-    Asks choice (λ w. RefusesOne w p changes (record { index = index; refusal = e }))
+    Asks choice (λ w. RefusesOne default_lookup w p changes (record { index = index; refusal = e }))
 
 -- so it is of the changes that a merge makes, where all are there
 abbrev pub RefusesToMerge : WriteChoice → Side → (base ours : Option Document) → Option Pieces → ℕ → EditError
     → Type 0
 RefusesToMerge choice side (Some base) (Some ours) (Some theirs) index e =
-    RefusesAt choice theirs (taken_changes side base ours (document_in theirs)) index e
+    RefusesAt choice theirs (taken_under default_lookup side base ours (document_in theirs)) index e
 RefusesToMerge choice side _ _ _ index e = ⊥

@@ -1,9 +1,11 @@
 pub mod BeginLemmas
 pub mod ByteLemmas
+pub mod CommentEditLemmas
 pub mod DefaultLemmas
 pub mod DeletedUnderLemmas
 pub mod EditLemmas
 pub mod EncodingLemmas
+pub mod FlattenedLemmas
 pub mod GuessLemmas
 pub mod KeyEditLemmas
 pub mod KeyLawLemmas

@@ -75,7 +75,7 @@ module _ (rule : SectionRule) (named : Option Text → Bool) (test : Text → Bo
   gathered-each (s ∷ d) =
       grind (arith, gathered-each d, gathered-same s (map (λ s. cond (passes s) (f s) s) d))
 
-joined-nil : (rule : SectionRule) → joined {X = Text} rule [] [] ≡ []
+pub joined-nil : (rule : SectionRule) → joined {X = Text} rule [] [] ≡ []
 joined-nil FirstSection = refl
 joined-nil Joined = refl
 

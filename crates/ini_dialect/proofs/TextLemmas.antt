@@ -1,9 +1,9 @@
 -- Texts that are equal but for case, as characters and as bytes.
 use Rattle.std.proofs.Common.{◌≡◌, ◌∙◌, ◌↔◌, ℕ, Bool, true, false, IsTrue, List, [], ◌∷◌, ◌++◌, map, ap}
 use Rattle.std.proofs.Common.{arith, refl, sym}
-use lib.Utf8.{encode, encodes}
+use lib.Utf8.{encode, encodes, scalar, scalars}
 use Rattle.std.proofs.lemmas.Bool.Decides.{nat_tests}
-use Rattle.std.proofs.lemmas.Str.{encodes-chars, encodes_same}
+use Rattle.std.proofs.lemmas.Str.{chars_from_encodes, encodes-chars, encodes_same, scalars-chars}
 use Rattle.std.specs.Char.{to_ascii_lowercase}
 use Rattle.std.specs.Cmp.Lexicographic.{bytes_decides}
 use Rattle.std.specs.Str.{IsUtf8, bytes_eq, chars}
@@ -28,6 +28,20 @@ small-encodes (c ∷ cs) =
 -- the bytes with small letters are those of the text with small letters
 small-bytes : (u : List ℕ) → IsUtf8 u → encodes (small (chars u)) ≡ map to_ascii_lowercase u
 small-bytes u text = small-encodes (chars u) ∙ ap (map to_ascii_lowercase) (encodes-chars u text)
+
+-- and so are its characters
+small-scalar : (c : ℕ) → scalar c ≡ true → scalar (to_ascii_lowercase c) ≡ true
+small-scalar c is = grind (arith, nat_tests, is)
+
+small-scalars : (cs : List ℕ) → scalars cs ≡ true → scalars (small cs) ≡ true
+small-scalars [] are = refl
+small-scalars (c ∷ cs) are = grind (arith, are, small-scalar c, small-scalars cs)
+
+pub small_chars : (u : List ℕ) → IsUtf8 u → chars (map to_ascii_lowercase u) ≡ small (chars u)
+small_chars u text =
+    let is = small-bytes u text in
+    sym (chars_from_encodes (small (chars u)) (map to_ascii_lowercase u)
+    (small (chars u), (small-scalars (chars u) (scalars-chars u text), is)) is)
 
 -- two tests that hold together
 same_test : (b c : Bool) → (b ≡ true → c ≡ true) → (c ≡ true → b ≡ true) → b ≡ c
@@ -57,4 +71,4 @@ module _ (u v : List ℕ) (text_u : IsUtf8 u) (text_v : IsUtf8 v) where
       (λ same.
       bytes.1 (sym (encodes-chars u text_u) ∙ ap encodes (characters.0 same) ∙ encodes-chars v text_v))
 
-pub ruleset fits = (fits_ignored, fits_kept)
+pub ruleset fits = (fits_ignored, fits_kept, small_chars)

@@ -1,7 +1,9 @@
+pub mod CommentEdits
 pub mod Dialects
 pub mod EncodingLaws
 pub mod EncodingNames
 pub mod Encodings
+pub mod Flattened
 pub mod Guesses
 pub mod Inside
 pub mod KeyEdits

@@ -7,8 +7,10 @@
 
 mod character;
 mod coding;
+mod comment_edit;
 mod edit;
 mod encoding;
+mod flattened;
 mod get;
 mod guessing;
 mod key_edit;

@@ -1,6 +1,6 @@
 //! The rules of looking up. This file knows nothing of documents.
 ghost use Rattle.std.specs.Prelude.{◌≡◌};
-ghost use Rattle.ini_dialect.specs.Rules.{default_lookup};
+ghost use Rattle.ini_dialect.specs.Rules.{default_lookup, is_own};
 
 /// Which sections of a name are looked at.
 #[derive(Clone, Copy, PartialEq, Eq, Debug)]
@@ -39,6 +39,18 @@ pub struct Lookup {
     pub values: ValueRule,
     /// Whether keys and names of other case fit.
     pub case: CaseRule,
+}
+
+impl Lookup {
+    /// Whether it is the default one, by which `Ini`'s calls go.
+    pub fn is_own(self) -> bool
+        ensures { result ≡ is_own self }
+    {
+        match (self.sections, self.values, self.case) {
+            (SectionRule::First, ValueRule::First, CaseRule::Kept) => true,
+            _ => false,
+        }
+    }
 }
 
 /// The first section, the first value, case kept: what the calls of `Ini` and `View` answer.

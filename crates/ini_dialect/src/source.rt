@@ -200,13 +200,14 @@ impl Lookup {
         ensures only { IsOkUnless result (Error.Memory alloc_error) }
     {
         let mut edited = source.copy(alloc)?;
-        let found = self.delete_each(alloc, &mut edited, name, key)?;
+        let found = self.delete_each_in_source(alloc, &mut edited, name, key)?;
         source.replace_with(edited);
         Ok(found)
     }
 
-    // Takes these pairs out one after the other: whether there was one. Refused, some may be out.
-    fn delete_each(
+    /// Takes these pairs out as `delete_in_source` does, but without a copy: refused, which is for want of
+    /// memory alone, some may be out. So it is for pieces that are dropped then.
+    pub fn delete_each_in_source(
         self,
         alloc: Global,
         source: &mut Source<'_>,

@@ -2,7 +2,7 @@
 use Rattle.std.proofs.Common.{◌≡◌, ◌∙◌, ◌&&◌, ℕ, Bool, true, false, List, [], ◌∷◌, ◌++◌, None, Option, Some}
 use Rattle.std.proofs.Common.{ap, append-nil, get_or, if◌then◌else◌, map, refl, set, subst, sym}
 use Rattle.std.proofs.lemmas.List.{map-append}
-use Rattle.std.specs.Option.{option_map}
+use Rattle.std.specs.Option.{MatchOption, option_map}
 use Rattle.ini_text.specs.Options.WriteOptions.{line_end}
 use Rattle.ini_text.specs.declared.option.ParseOption.{ParseOption}
 use Rattle.ini_text.specs.declared.write.option.LineSeparator.{LineSeparator}
@@ -12,10 +12,10 @@ use Rattle.ini.specs.Edits.{delete_in}
 use Rattle.ini.specs.Texts.{Text}
 use Rattle.ini_text.specs.Grammar.CharacterKinds.{line_feed}
 use Rattle.ini_text.specs.Grammar.Positions.{last_or}
-use Rattle.ini_edit.specs.Inside.SourceEnds.{IsPairAt, IsPlaceAt, last_before}
+use Rattle.ini_edit.specs.Inside.SourceEnds.{IsPairAt, IsPlaceAt, end_put_at, last_before}
 use Rattle.ini_edit.specs.Inside.Spans.{AreSections}
 use Rattle.ini_edit.specs.SourceEditsAdded.{new_line_end}
-use Rattle.ini_edit.specs.SourceEditsComments.{IsCommentText, IsCommented, IsCommentedOut, comment_put}
+use Rattle.ini_edit.specs.SourceEditsComments.{IsCommentText, IsCommentedOut, comment_put}
 use Rattle.ini_edit.specs.SourceEditsComments.{in_section, lines_of_comment, pair_commented_out}
 use Rattle.ini_edit.specs.SourceEditsDelete.{deleted_at, pair_taken_out, rest_put, with_rest}
 use Rattle.ini_edit.specs.SourceLines.{is_empty}
@@ -25,6 +25,7 @@ use Rattle.ini_edit.specs.SourcePlaces.{section_exchanged, with_end}
 use Rattle.ini_edit.specs.NewLines.{line_end_of}
 use Rattle.ini_edit.specs.Sources.{PairPiece, Pieces, SectionPiece, given_pair, given_section, is_multiline}
 use Rattle.ini_edit.specs.Sources.{sections_text, text_in}
+use Rattle.ini_edit.specs.declared.source.pair.ends.NewEnd.{NewEnd}
 use Rattle.ini_edit.proofs.CommentRowLemmas.{IsNewLine}
 use Rattle.ini_edit.proofs.CommentSectionLemmas.{commented_sections}
 use Rattle.ini_edit.proofs.DeletedSourceLemmas.{first_document, taken_given}
@@ -105,11 +106,9 @@ comment_given o e comment front s p new h =
     ap given_section (sym (chosen _ _ new h))
     ∙ put_given o _ _ (lines_of_comment e comment) s p.before (p.here ∷ p.after)
 
-module _ (o : ParseOption) (w : WriteOption) (ss : List SectionPiece) (name : Option Text) (key : Text)
-    {i j : ℕ} (at : IsPairAt (pair_place name key 0 ss) ss i j) where
-  abbrev pieces : List SectionPiece → Pieces
-  pieces l = record { option = o; sections = l }
-
+-- comments put above a pair
+module _ (o : ParseOption) (w : WriteOption) (ss : List SectionPiece) {found : Option PairPlace} {i j : ℕ}
+    (at : IsPairAt found ss i j) where
   abbrev here : SectionPiece
   here = at.place.section.here
 
@@ -124,7 +123,7 @@ module _ (o : ParseOption) (w : WriteOption) (ss : List SectionPiece) (name : Op
       (commented_sections o at.section at.place.pair at.pair.whole are
       (new_lines (line_end_of w.line_separator (sections_text ss))) comment text new put)
 
-  comment_document : (comment : Text) {new : SectionPiece}
+  pub comment_document : (comment : Text) {new : SectionPiece}
       → comment_put o (new_line_end w ss) comment front here at.place.pair ≡ Some new
       → map given_section (set ss i new) ≡ map given_section ss
   comment_document comment {new} put =
@@ -133,17 +132,11 @@ module _ (o : ParseOption) (w : WriteOption) (ss : List SectionPiece) (name : Op
       (comment_given o (new_line_end w ss) comment front here at.place.pair new put
       ∙ ap (λ ps. (here.name, map given_pair ps)) (sym at.pair.whole))
 
-  pub comment_made : (comment : Text) {new : SectionPiece} → IsCommentText comment
+  pub comment_exchanged : (comment : Text) {new : SectionPiece}
       → comment_put o (new_line_end w ss) comment front here at.place.pair ≡ Some new
-      → IsCommented o w (pieces ss) (pieces (set ss i new)) name key comment
-  comment_made comment {new} text put = record {
-    is_comment = text;
-    at = at.place;
-    was = at.is;
-    option = refl;
-    sections = ap (option_map (section_exchanged at.place)) put ∙ ap Some (sym (place_set at.section new));
-    document = comment_document comment put;
-  }
+      → in_section (comment_put o (new_line_end w ss) comment) at.place ≡ Some (set ss i new)
+  comment_exchanged comment {new} put =
+      ap (option_map (section_exchanged at.place)) put ∙ ap Some (sym (place_set at.section new))
 
 -- a pair made comments
 module _ (o : ParseOption) (ss : List SectionPiece) {found : Option PairPlace} {i j : ℕ}
@@ -218,22 +211,46 @@ module _ (find : List SectionPiece → Option PairPlace) {v w : Pieces} (view : 
         before ∙ ap (λ v. last_before v.sections i) (sym view)
         ∙ ap (λ l. last_or line_feed (sections_text l)) (place_take pair_there.section)
 
-    pub comment_there : (wr : WriteOption) (comment : Text) {front : ℕ} {end : LineSeparator}
-        {t : Option SectionPiece}
-        → front ≡ last_before w.sections i → end ≡ line_end_of wr.line_separator (text_in w)
-        → comment_put v.option (line_end end) comment front x pair_there.place.pair ≡ t
-        → comment_put v.option (new_line_end wr v.sections) comment
-        (last_before_section pair_there.place.section) pair_there.place.section.here pair_there.place.pair ≡ t
-    comment_there wr comment {front} {end} before ends put =
-        let p = pair_there.place.pair in
-        let here = pair_there.place.section.here in
-        let same : end ≡ line_end_of wr.line_separator (sections_text v.sections) =
-        ends ∙ ap (λ v. line_end_of wr.line_separator (sections_text v.sections)) (sym view) in
-        ap (λ e. comment_put v.option (line_end e) comment (last_before_section pair_there.place.section) here
-        p)
-        (sym same)
-        ∙ ap (λ f. comment_put v.option (line_end end) comment f here p) (sym (front_read before))
-        ∙ ap (λ s. comment_put v.option (line_end end) comment front s p) (sym section_read) ∙ put
+    abbrev put_there : WriteOption → Text → Option SectionPiece
+    put_there wr comment =
+        comment_put v.option (new_line_end wr v.sections) comment
+        (last_before_section pair_there.place.section) pair_there.place.section.here pair_there.place.pair
+
+    module _ (wr : WriteOption) (comment : Text) {front : ℕ} {end : LineSeparator}
+        (before : front ≡ last_before w.sections i)
+        (ends : end ≡ line_end_of wr.line_separator (text_in w)) where
+      comment_there : comment_put v.option (line_end end) comment front x pair_there.place.pair
+          ≡ put_there wr comment
+      comment_there =
+          let p = pair_there.place.pair in
+          let here = pair_there.place.section.here in
+          ap (λ s. comment_put v.option (line_end end) comment front s p) section_read
+          ∙ ap (λ f. comment_put v.option (line_end end) comment f here p) (front_read before)
+          ∙ ap (λ e. comment_put v.option (line_end e) comment (last_before_section
+          pair_there.place.section) here p)
+          (ends ∙ ap (λ v. line_end_of wr.line_separator (sections_text v.sections)) (sym view))
+
+      -- by the new end that was told before the pair, or that there is none
+      module _ {told : Option NewEnd}
+          (is : (p : Place PairPiece) → IsPlaceAt x.pairs p j
+          → MatchOption told (comment_put v.option (line_end end) comment front x p ≡ None)
+          (λ e. comment_put v.option (line_end end) comment front x p ≡ Some (end_put_at e j x))) where
+        pub comment_told : {t : Option NewEnd} → told ≡ t
+            → MatchOption t (put_there wr comment ≡ None)
+            (λ e. put_there wr comment ≡ Some (end_put_at e j x))
+        comment_told same =
+            subst (λ t. MatchOption t (put_there wr comment ≡ None)
+            (λ e. put_there wr comment ≡ Some (end_put_at e j x))) same
+            (subst (λ put. MatchOption told (put ≡ None) (λ e. put ≡ Some (end_put_at e j x))) comment_there
+            (is pair_there.place.pair pair_read))
+
+        pub comment_ended : {e : NewEnd} {y new : SectionPiece} → told ≡ Some e
+            → y ≡ get_or v.sections i y → new ≡ end_put_at e j y → put_there wr comment ≡ Some new
+        comment_ended {e} some read_again put =
+            comment_told some
+            ∙ ap (λ s. Some (end_put_at e j s))
+            (section_read ∙ sym (place_read pair_there.section read_again))
+            ∙ ap Some (sym put)
 
     pub out_there : {front : ℕ} {t : Option SectionPiece} → front ≡ last_before w.sections i
         → pair_commented_out v.option front x pair_there.place.pair ≡ t

@@ -23,14 +23,16 @@ use Rattle.ini_edit.specs.Renamed.{HasEdges, IsPlainBareKey}
 use Rattle.ini_edit.specs.SourceEdits.{with_key, with_pairs}
 use Rattle.ini_edit.specs.SourceEditsAdd.{pair_put_last}
 use Rattle.ini_edit.specs.SourceEditsAdded.{added_at, new_line_end}
-use Rattle.ini_edit.specs.SourceEditsAt.{IsAddedAtIndex, IsCommentedOutAtIndex, IsKeyRenamedAtIndex}
-use Rattle.ini_edit.specs.SourceEditsAt.{IsSetAtIndex, RefusesAtIndex, at_index, at_section}
-use Rattle.ini_edit.specs.SourceEditsAt.{deleted_at_index, indexed_pair, indexed_place}
+use Rattle.ini_edit.specs.SourceEditsAt.{IsAddedAtIndex, IsCommentedAtIndex, IsCommentedOutAtIndex}
+use Rattle.ini_edit.specs.SourceEditsAt.{IsKeyRenamedAtIndex, IsSetAtIndex, RefusesAtIndex}
+use Rattle.ini_edit.specs.SourceEditsAt.{RefusesCommentAtIndex, at_index, at_section, deleted_at_index}
+use Rattle.ini_edit.specs.SourceEditsAt.{indexed_pair, indexed_place}
+use Rattle.ini_edit.specs.SourceEditsComments.{IsCommentText, IsCommented, RefusesComment, comment_put}
 use Rattle.ini_edit.specs.SourceEditsComments.{pair_commented_out}
 use Rattle.ini_edit.specs.SourceEditsDelete.{deleted_at, pair_taken_out}
 use Rattle.ini_edit.specs.SourceEditsSet.{pair_changed_at, with_value_before}
 use Rattle.ini_edit.specs.SourcePlaces.{PairPlace, Place, edited_at, exchanged, is_nil, last_before_section}
-use Rattle.ini_edit.specs.SourcePlaces.{one_on}
+use Rattle.ini_edit.specs.SourcePlaces.{one_on, pair_place}
 use Rattle.ini_edit.specs.SourceWritten.{IsFirstReadAs, IsWritableNew, Style, value_forms}
 use Rattle.ini_edit.specs.Sources.{PairPiece, Pieces, SectionPiece, given_pair, given_section, sections_text}
 use Rattle.ini_edit.specs.declared.error.EditError.{EditError}
@@ -40,7 +42,8 @@ use Rattle.ini_edit.proofs.AddSourceLemmas.{made_there, put_so, put_there, stand
 use Rattle.ini_edit.proofs.DeletedSourceLemmas.{placed_in, taken_given}
 use Rattle.ini_edit.proofs.PairAddLemmas.{gives_last}
 use Rattle.ini_edit.proofs.SourcePlaceLemmas.{place_read, place_remove, place_set, place_take}
-use Rattle.ini_edit.proofs.SourceCommentLemmas.{out_exchanged, out_given}
+use Rattle.ini_edit.proofs.SourceCommentLemmas.{comment_document, comment_exchanged, out_exchanged}
+use Rattle.ini_edit.proofs.SourceCommentLemmas.{out_given}
 use Rattle.ini_edit.proofs.SourceRenameLemmas.{spans_renamed}
 use Rattle.ini_edit.proofs.SourceSpanLemmas.{pairs_put_in, spans_after_pairs, spans_before_pairs}
 use Rattle.ini_edit.proofs.SourceWrittenLemmas.{before_given, changed_in, here_read}
@@ -101,6 +104,34 @@ module _ (ss : List SectionPiece) {i : ℕ} {x : SectionPiece} (there : i < leng
 
 pub pair_nowhere : (ss : List SectionPiece) (i j : ℕ) → length ss ≤ i → indexed_pair i j ss ≡ None
 pair_nowhere ss i j out = ap (option_and_then (pairs_of j)) (indexed_none ss i out)
+
+-- the place of an item at its index, and of a pair at its indices, however it was found
+place_indexed : {A : Type 0} {xs : List A} {p : Place A} {i : ℕ} → IsPlaceAt xs p i
+    → indexed_place i xs ≡ Some p
+place_indexed {A} {xs} {p} at =
+    ap (λ n. indexed_place n xs) at.index ∙ ap (indexed_place (length p.before)) at.whole ∙ by p.before
+  where
+    by : (before : List A) → indexed_place (length before) (before ++ p.here ∷ p.after)
+        ≡ Some (record { before = before; here = p.here; after = p.after })
+    by [] = refl
+    by (x ∷ xs) = ap (option_map (one_on x)) (by xs)
+
+module _ {found : Option PairPlace} {ss : List SectionPiece} {i j : ℕ} (at : IsPairAt found ss i j) where
+  there_indexed : indexed_pair i j ss ≡ Some at.place
+  there_indexed =
+      ap (option_and_then (pairs_of j)) (place_indexed at.section)
+      ∙ ap (option_map (placed_in at.place.section)) (place_indexed at.pair)
+
+  pub pair_indexed : IsPairAt (indexed_pair i j ss) ss i j
+  pair_indexed = record {
+    place = at.place;
+    is = there_indexed;
+    section = at.section;
+    pair = at.pair;
+  }
+
+  pub found_indexed : indexed_pair i j ss ≡ found
+  found_indexed = there_indexed ∙ sym at.is
 
 -- a list edited at a place's index, and a list of what is seen of it
 module _ {A : Type 0} {xs : List A} {p : Place A} {i : ℕ} (at : IsPlaceAt xs p i) where
@@ -236,6 +267,44 @@ out_indexed o ss {i} {j} at {new} put =
           ∙ ap (λ g. (at.place.section.here.name, g))
           (map-append given_pair p.before p.after ∙ sym (place_remove (place_seen at.pair given_pair))));
     }
+
+-- comments put above a pair
+pub comment_indexed : (o : ParseOption) (w : WriteOption) (ss : List SectionPiece) {i j : ℕ}
+    (at : IsPairAt (indexed_pair i j ss) ss i j) (comment : Text) {new : SectionPiece}
+    → IsCommentText comment
+    → comment_put o (new_line_end w ss) comment (last_before_section at.place.section) at.place.section.here
+    at.place.pair ≡ Some new
+    → IsCommentedAtIndex o w (record { option = o; sections = ss })
+    (record { option = o; sections = set ss i new }) i j comment
+comment_indexed o w ss at comment text put = record {
+  is_comment = text;
+  place = at.place;
+  was = at.is;
+  option = refl;
+  sections = comment_exchanged o w ss at comment put;
+  document = comment_document o w ss at comment put;
+}
+
+-- the first one of a key
+module _ {o : ParseOption} {w : WriteOption} {name : Option Text} {key comment : Text} {i j : ℕ} where
+  pub commented_first : {old new : Pieces}
+      → IsPairAt (pair_place name key 0 old.sections) old.sections i j
+      → IsCommentedAtIndex o w old new i j comment → IsCommented o w old new name key comment
+  commented_first at is = record {
+    is_comment = is.is_comment;
+    at = is.place;
+    was = sym (found_indexed at) ∙ is.was;
+    option = is.option;
+    sections = is.sections;
+    document = is.document;
+  }
+
+  pub refused_first : {ss : List SectionPiece} {e : EditError} → IsPairAt (pair_place name key 0 ss) ss i j
+      → RefusesCommentAtIndex o w ss i j comment e → RefusesComment o w ss name key comment e
+  refused_first at (RefusesCommentAtIndex.no_comment_at other) = RefusesComment.no_comment other
+  refused_first at (RefusesCommentAtIndex.no_place_bare_at text was none) =
+      RefusesComment.no_place_bare text (sym (found_indexed at) ∙ was) none
+  refused_first at (RefusesCommentAtIndex.no_memory_above text) = RefusesComment.no_memory text
 
 -- a pair taken out
 module _ {ss : List SectionPiece} {i j : ℕ} (at : IsPairAt (indexed_pair i j ss) ss i j)

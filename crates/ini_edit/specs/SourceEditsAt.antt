@@ -1,4 +1,5 @@
--- Edits of a text in pieces at an index: at that of a section, and at that of a pair in it.
+-- Edits of a text in pieces at an index: at that of a section, and at that of a pair in it; comments above a
+-- pair are among them.
 use Rattle.std.specs.Prelude.{◌≡◌, Bool, true, false, ℕ, zero, suc, List, [], ◌∷◌, ◌++◌, Option, None, Some}
 use Rattle.std.specs.Prelude.{alloc_error}
 use Rattle.std.specs.List.{remove}
@@ -13,8 +14,8 @@ use Rattle.ini_text.specs.declared.write.option.WriteOption.{WriteOption}
 use Rattle.ini_text.specs.declared.write.policy.EscapePolicy.{EscapePolicy}
 use Rattle.ini_edit.specs.Renamed.{HasEdges}
 use Rattle.ini_edit.specs.SourceEdits.{with_key}
-use Rattle.ini_edit.specs.SourceEditsAdded.{added_at}
-use Rattle.ini_edit.specs.SourceEditsComments.{in_section, pair_commented_out}
+use Rattle.ini_edit.specs.SourceEditsAdded.{added_at, new_line_end}
+use Rattle.ini_edit.specs.SourceEditsComments.{IsCommentText, comment_put, in_section, pair_commented_out}
 use Rattle.ini_edit.specs.SourceEditsDelete.{deleted_at}
 use Rattle.ini_edit.specs.SourceEditsSet.{pair_changed_at, with_value_before}
 use Rattle.ini_edit.specs.SourcePlaces.{PairPlace, Place, edited_at, one_on}
@@ -22,7 +23,7 @@ use Rattle.ini_edit.specs.SourceWritten.{IsFirstReadAs, IsWritableNew, IsWritten
 use Rattle.ini_edit.specs.SourceWritten.{value_forms}
 use Rattle.ini_edit.specs.Sources.{Pieces, SectionPiece, document_in}
 use Rattle.ini_edit.specs.declared.error.EditError.{EditError}
-use Rattle.ini_edit.specs.declared.error.EditError.TheVariants.{NoPlace, Text as TextError}
+use Rattle.ini_edit.specs.declared.error.EditError.TheVariants.{NoPlace, Text as TextError, Value}
 
 -- the place at an index, from 0, of a list
 abbrev pub indexed_place : {A : Type 0} → ℕ → List A → Option (Place A)
@@ -115,6 +116,32 @@ abbrev pub deleted_at_index : ParseOption → (section pair : ℕ) → List Sect
 deleted_at_index o section pair ss = edited_at (deleted_at o) (indexed_pair section pair ss) ss
 
 module _ (o : ParseOption) (w : WriteOption) where
+  -- the comment stands directly above the pair at the indices
+  pub record IsCommentedAtIndex (old new : Pieces) (section pair : ℕ) (comment : Text) : Type 0 where
+    pub is_comment : IsCommentText comment
+    pub place : PairPlace
+    pub was : indexed_pair section pair old.sections ≡ Some place
+    pub option : new.option ≡ old.option
+    pub sections : in_section (comment_put o (new_line_end w old.sections) comment) place ≡ Some new.sections
+    pub document : document_in new ≡ document_in old
+
+  -- it does, or there is no such pair, and all stays
+  abbrev pub SetsCommentAtIndex : Pieces → Pieces → (section pair : ℕ) → Text → Bool → Type 0
+  SetsCommentAtIndex old new section pair comment true = IsCommentedAtIndex old new section pair comment
+  SetsCommentAtIndex old new section pair comment false =
+      (new ≡ old) × (indexed_pair section pair old.sections ≡ None)
+
+  -- it is refused where it isn't one, where without it the pair would go on with a value, or for memory
+  pub data RefusesCommentAtIndex (ss : List SectionPiece) (section pair : ℕ) (comment : Text) : EditError
+      → Type 0 where
+    no_comment_at : ¬ IsCommentText comment → RefusesCommentAtIndex ss section pair comment Value
+    no_place_bare_at : {place : PairPlace} → IsCommentText comment
+        → indexed_pair section pair ss ≡ Some place
+        → in_section (comment_put o (new_line_end w ss) comment) place ≡ None
+        → RefusesCommentAtIndex ss section pair comment NoPlace
+    no_memory_above : IsCommentText comment
+        → RefusesCommentAtIndex ss section pair comment (TextError (Memory alloc_error))
+
   -- The pair is added to the section at the index, in the first form of its value that is read back.
   pub record IsAddedAtIndex (old new : Pieces) (section : ℕ) (key value : Text) : Type 0 where
     pub writable : IsWritableNew o w key value

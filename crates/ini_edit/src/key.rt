@@ -87,8 +87,8 @@ fn is_key_white(c: char, line: LoneLine) -> bool
     }
 }
 
-/// Whether a key can be written in any pair's place so that it is read back: it is plain, and no space
-/// begins it.
+/// Whether a key that the policy writes in any pair's place is read back under these options: it is plain,
+/// and no space begins it. Some other keys are read back too, where they stand.
 pub fn is_plain_bare_key(key: &str, policy: EscapePolicy, read: ParseOption) -> bool
     ensures { IsTrue result ↔ IsPlainBareKey read policy (chars key.now) }
 {

@@ -1,10 +1,12 @@
 //! A new default file with a user's own changes in it: those between the old default and the user's file.
 ghost use Rattle.std.specs.Prelude.{IfOk};
+ghost use Rattle.ini_dialect.specs.Rules.{default_lookup};
 ghost use Rattle.ini_edit.specs.Sources.{document_in};
 ghost use Rattle.ini_layers.specs.Merging.{IsMerged};
 ghost use Rattle.ini_layers.specs.declared.merging.Side.TheVariants.{Ours};
 
 use ini::{Ini, WriteOption};
+use ini_dialect::Lookup;
 use ini_edit::{RefusedEdit, Source};
 use ini_layers::{Side, merge};
 use std::alloc::Global;
@@ -16,11 +18,19 @@ pub fn upgraded<'n>(
     users: &Ini,
     new_default: &Source<'n>,
 ) -> Result<Source<'n>, RefusedEdit>
-    ensures { IfOk result (λ new. IsMerged Ours old_default.now users.now
+    ensures { IfOk result (λ new. IsMerged default_lookup Ours old_default.now users.now
         (document_in new_default.now) (document_in new)) }
 {
     let write = WriteOption::default();
-    merge(alloc, &write, old_default, users, new_default, Side::Ours)
+    merge(
+        alloc,
+        Lookup::default(),
+        &write,
+        old_default,
+        users,
+        new_default,
+        Side::Ours,
+    )
 }
 
 /// The same of three texts, as a text.

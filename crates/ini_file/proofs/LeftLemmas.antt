@@ -7,30 +7,30 @@ use Rattle.std.proofs.Common.{drop, drop-cons, get_or, length, length-take, map,
 use Rattle.std.proofs.Common.{take-suc}
 use Rattle.std.proofs.lemmas.List.{length-map, map-append}
 use Rattle.std.proofs.lemmas.Str.{chars-nil, scalars-chars}
-use Rattle.std.specs.Option.{option_map}
 use Rattle.std.specs.Prelude.{IfErr, IfOk, MatchOption, OnOk, codes, encode_utf8_all}
 use Rattle.std.specs.Str.{IsUtf8, all_scalars, chars}
 use Rattle.ini_text.specs.declared.error.Error.TheVariants.{Memory}
 use Rattle.ini_text.specs.declared.write.option.WriteOption.{WriteOption}
 use Rattle.ini_text.specs.declared.write.policy.EscapePolicy.TheVariants.{Basics}
 use Rattle.ini_text.proofs.LawLemmas.ExportedLemmas.{escaped-scalars, scalars-append}
-use Rattle.ini.specs.Edits.{set_in}
 use Rattle.ini.specs.Texts.{Text}
-use Rattle.ini_edit.specs.SourceEditsAdded.{IsSetIn}
-use Rattle.ini_edit.specs.SourceEditsComments.{IsCommented, RefusesComment, SetsComment, comments_above}
-use Rattle.ini_edit.specs.SourcePlaces.{PairPlace, pair_place}
-use Rattle.ini_edit.specs.Sources.{Pieces, document_in}
+use Rattle.ini_edit.specs.Sources.{Pieces}
+use Rattle.ini_edit.specs.declared.edit_list.RefusedEdit.{RefusedEdit}
 use Rattle.ini_edit.specs.declared.error.EditError.{EditError}
 use Rattle.ini_edit.specs.declared.error.EditError.TheVariants.{Text as TextError}
-use Rattle.ini_edit.specs.declared.source.set.LaterPairs.TheVariants.{TakenOut}
+use Rattle.ini_dialect.specs.CommentEdits.{IsCommentedUnder, RefusesCommentUnder, SetsCommentUnder}
+use Rattle.ini_dialect.specs.CommentEdits.{StandsAbove}
+use Rattle.ini_dialect.specs.declared.rule.Lookup.{Lookup}
 use Rattle.ini_layers.specs.Differences.{SettingChange}
 use Rattle.ini_layers.specs.Merging.{SettingConflict, setting_conflict}
 use Rattle.ini_layers.specs.SourceChanges.{IsMade}
 use Rattle.ini_layers.specs.declared.merging.Conflict.{Conflict}
-use Rattle.ini_layers.proofs.MadeLemmas.{memory_refused, set-made}
+use Rattle.ini_layers.specs.declared.merging.Side.{Side}
+use Rattle.ini_layers.proofs.MadeLemmas.{memory_refused}
 use Rattle.ini_file.specs.ChangeLines.{escaped_part}
 use Rattle.ini_file.specs.LeftConflicts.{AreLeft, IsLeft, IsPutAbove, MakesOurs, RefusesAbove}
-use Rattle.ini_file.specs.LeftConflicts.{RefusesFirstToLeave, RefusesOneToLeave, RefusesToLeave, side_comment}
+use Rattle.ini_file.specs.LeftConflicts.{RefusesFirstToLeave, RefusesOneToLeave, RefusesToLeave, RefusesUnless}
+use Rattle.ini_file.specs.LeftConflicts.{refused_before, side_comment}
 
 chars-mark-ours : chars (codes "; ours") ≡ codes "; ours"
 unfolding chars
@@ -40,147 +40,96 @@ chars-mark-theirs : chars (codes "; theirs") ≡ codes "; theirs"
 unfolding chars
 chars-mark-theirs = refl
 
--- a place, and the comments there
-record IsFound (place : Option PairPlace) (above : Text) : Type 0 where
-  at : PairPlace
-  is : place ≡ Some at
-  stands : comments_above at ≡ above
-
-found : (place : Option PairPlace) (above : Text) → Some above ≡ option_map comments_above place
-    → IsFound place above
-found None above e = absurd cc
-found (Some at) above e = record { at = at; is = refl; stands = cc }
-
-not_found : {P : Type 0} (Q : PairPlace → Type 0) (place : Option PairPlace)
-    → None ≡ option_map comments_above place → P → MatchOption place P Q
-not_found Q None e p = p
-not_found Q (Some at) e p = absurd cc
-
-module _ (w : WriteOption) where
-  -- without a pair all stays
-  pub put_nowhere : (name : Option Text) (key comment : Text) (p : Pieces)
-      → None ≡ option_map comments_above (pair_place name key 0 p.sections)
-      → IsPutAbove w name key comment p p
-  put_nowhere name key comment p none =
-      not_found (λ at. IsCommented p.option w p p name key (comments_above at ++ comment))
-      (pair_place name key 0 p.sections) none refl
-
-  put_there : (old new : Pieces) (name : Option Text) (key above comment whole : Text) (is_found : Bool)
-      → Some above ≡ option_map comments_above (pair_place name key 0 old.sections)
-      → whole ≡ above ++ comment → SetsComment old.option w old new name key whole is_found
-      → IsPutAbove w name key comment old new
-  put_there old new name key above comment whole true e is set =
-      let f = found (pair_place name key 0 old.sections) above e in
-      subst (λ place. MatchOption place (new ≡ old)
-      (λ at. IsCommented old.option w old new name key (comments_above at ++ comment))) (sym f.is)
-      (subst (λ text. IsCommented old.option w old new name key text)
-      (is ∙ ap (λ a. a ++ comment) (sym f.stands)) set)
-  put_there old new name key above comment whole false e is set =
-      let f = found (pair_place name key 0 old.sections) above e in
-      let none : pair_place name key 0 old.sections ≡ None = set.1 in
-      let some : pair_place name key 0 old.sections ≡ Some f.at = f.is in
-      absurd cc
-
-  put_refused : {p : Pieces} {e : EditError} (name : Option Text) (key above comment whole : Text)
-      → Some above ≡ option_map comments_above (pair_place name key 0 p.sections)
-      → whole ≡ above ++ comment → RefusesComment p.option w p.sections name key whole e
-      → RefusesAbove w name key comment p e
-  put_refused {p} {e} name key above comment whole there is refused =
-      let f = found (pair_place name key 0 p.sections) above there in
-      RefusesAbove.at_pair f.is (subst (λ text. RefusesComment p.option w p.sections name key text e)
-      (is ∙ ap (λ a. a ++ comment) (sym f.stands)) refused)
-
+module _ (rule : Lookup) (w : WriteOption) where
   -- what is put above a pair that is there, as the call that puts it answers
   pub put_if : (old new : Pieces) (name : Option Text) (key above comment whole : Text)
-      (r : Result Bool EditError)
-      → Some above ≡ option_map comments_above (pair_place name key 0 old.sections)
-      → whole ≡ above ++ comment
-      → IfOk r (λ is_found. SetsComment old.option w old new name key whole is_found)
-      → OnOk r (IsPutAbove w name key comment old new)
-  put_if old new name key above comment whole (Ok is_found) e is set =
-      put_there old new name key above comment whole is_found e is set
-  put_if old new name key above comment whole (Err refusal) e is set = tt
+      (r : Result Bool EditError) → StandsAbove rule name key old above → whole ≡ above ++ comment
+      → IfOk r (SetsCommentUnder rule name key w old new whole)
+      → OnOk r (IsPutAbove rule w name key comment old new)
+  put_if old new name key above comment whole (Ok true) stands is set =
+      IsPutAbove.above stands (subst (IsCommentedUnder rule name key w old new) is set)
+  put_if old new name key above comment whole (Ok false) stands is set = IsPutAbove.nowhere set.1 set.0
+  put_if old new name key above comment whole (Err refusal) stands is set = tt
 
   pub refused_if : (p : Pieces) (name : Option Text) (key above comment whole : Text)
-      (r : Result Bool EditError)
-      → Some above ≡ option_map comments_above (pair_place name key 0 p.sections)
-      → whole ≡ above ++ comment → IfErr r (λ e. RefusesComment p.option w p.sections name key whole e)
-      → IfErr r (λ e. RefusesAbove w name key comment p e)
-  refused_if p name key above comment whole (Ok is_found) e is refused = tt
-  refused_if p name key above comment whole (Err refusal) e is refused =
-      put_refused name key above comment whole e is refused
+      (r : Result Bool EditError) → StandsAbove rule name key p above → whole ≡ above ++ comment
+      → IfErr r (RefusesCommentUnder rule name key w p whole)
+      → IfErr r (RefusesAbove rule w name key comment p)
+  refused_if p name key above comment whole (Ok is_found) stands is refused = tt
+  refused_if p name key above comment whole (Err refusal) stands is refused =
+      RefusesAbove.at_pair stands
+      (subst (λ text. RefusesCommentUnder rule name key w p text refusal) is refused)
 
   -- ours is set, as the call that sets it answers
   pub ours_made : {A : Type 0} (old new : Pieces) (c : SettingChange) (value : Text)
-      (r : Result A EditError) → c.new ≡ Some value
-      → OnOk r (IsSetIn old.option w TakenOut old new c.name c.key value)
-      → OnOk r (document_in new ≡ set_in c.name c.key value (document_in old))
-      → OnOk r (MakesOurs w c old new)
-  ours_made old new c value (Ok done) is set document =
-      subst (λ v. MatchOption v (new ≡ old) (λ x. IsMade w c old new)) (sym is)
-      (set-made w c value is set document)
-  ours_made old new c value (Err refusal) is set document = tt
+      (r : Result A EditError) → c.new ≡ Some value → OnOk r (IsMade rule w c old new)
+      → OnOk r (MakesOurs rule w c old new)
+  ours_made old new c value (Ok done) is made =
+      subst (λ v. MatchOption v (new ≡ old) (λ x. IsMade rule w c old new)) (sym is) made
+  ours_made old new c value (Err refusal) is made = tt
 
   -- a conflict is left
   module _ (c : SettingConflict) where
-    ours_put : (old new : Pieces) → IsPutAbove w c.change.name c.change.key
+    ours_put : (old new : Pieces) → IsPutAbove rule w c.change.name c.change.key
         (side_comment (chars (codes "; ours")) c.change.new) old new
-        → IsPutAbove w c.change.name c.change.key (side_comment (codes "; ours") c.change.new) old new
-    ours_put old new = subst (λ side. IsPutAbove w c.change.name c.change.key
+        → IsPutAbove rule w c.change.name c.change.key (side_comment (codes "; ours") c.change.new) old new
+    ours_put old new = subst (λ side. IsPutAbove rule w c.change.name c.change.key
         (side_comment side c.change.new) old new) chars-mark-ours
 
-    pub all_left : (old made half new : Pieces) → MakesOurs w c.change old made
-        → IsPutAbove w c.change.name c.change.key
+    pub all_left : (old made half new : Pieces) → MakesOurs rule w c.change old made
+        → IsPutAbove rule w c.change.name c.change.key
         (side_comment (chars (codes "; ours")) c.change.new) made half
-        → IsPutAbove w c.change.name c.change.key (side_comment (chars (codes "; theirs")) c.theirs) half new
-        → IsLeft w c old new
+        → IsPutAbove rule w c.change.name c.change.key
+        (side_comment (chars (codes "; theirs")) c.theirs) half new
+        → IsLeft rule w c old new
     all_left old made half new is_made ours theirs = record {
       made = made;
       half = half;
       is_made = is_made;
       ours = ours_put made half ours;
-      theirs = subst (λ side. IsPutAbove w c.change.name c.change.key
+      theirs = subst (λ side. IsPutAbove rule w c.change.name c.change.key
           (side_comment side c.theirs) half new) chars-mark-theirs theirs;
     }
 
-    pub ours_refused : (old made : Pieces) {e : EditError} → MakesOurs w c.change old made
-        → RefusesAbove w c.change.name c.change.key
+    pub ours_refused : (old made : Pieces) {e : EditError} → MakesOurs rule w c.change old made
+        → RefusesAbove rule w c.change.name c.change.key
         (side_comment (chars (codes "; ours")) c.change.new) made e
-        → RefusesToLeave w c old e
+        → RefusesToLeave rule w c old e
     ours_refused old made {e} is_made refused =
-        RefusesToLeave.ours made is_made (subst (λ side. RefusesAbove w c.change.name c.change.key
+        RefusesToLeave.ours made is_made (subst (λ side. RefusesAbove rule w c.change.name c.change.key
         (side_comment side c.change.new) made e) chars-mark-ours refused)
 
-    pub theirs_refused : (old made half : Pieces) {e : EditError} → MakesOurs w c.change old made
-        → IsPutAbove w c.change.name c.change.key
+    pub theirs_refused : (old made half : Pieces) {e : EditError} → MakesOurs rule w c.change old made
+        → IsPutAbove rule w c.change.name c.change.key
         (side_comment (chars (codes "; ours")) c.change.new) made half
-        → RefusesAbove w c.change.name c.change.key
+        → RefusesAbove rule w c.change.name c.change.key
         (side_comment (chars (codes "; theirs")) c.theirs) half e
-        → RefusesToLeave w c old e
+        → RefusesToLeave rule w c old e
     theirs_refused old made half {e} is_made ours refused =
         RefusesToLeave.theirs made half is_made (ours_put made half ours)
-        (subst (λ side. RefusesAbove w c.change.name c.change.key (side_comment side c.theirs) half e)
+        (subst (λ side. RefusesAbove rule w c.change.name c.change.key (side_comment side c.theirs) half e)
         chars-mark-theirs refused)
 
   -- one conflict more is left
   pub one_left : {old mid new : Pieces} (conflicts : List Conflict) (i : ℕ) (d : Conflict)
-      → i < length conflicts → AreLeft w old (map setting_conflict (take i conflicts)) mid
-      → IsLeft w (setting_conflict (get_or conflicts i d)) mid new
-      → AreLeft w old (map setting_conflict (take (i + 1) conflicts)) new
+      → i < length conflicts → AreLeft rule w old (map setting_conflict (take i conflicts)) mid
+      → IsLeft rule w (setting_conflict (get_or conflicts i d)) mid new
+      → AreLeft rule w old (map setting_conflict (take (i + 1) conflicts)) new
   one_left {old} {mid} {new} conflicts i d within left is =
       let c = setting_conflict (get_or conflicts i d) in
       let taken : map setting_conflict (take (i + 1) conflicts)
       ≡ map setting_conflict (take i conflicts) ++ c ∷ [] =
       rw (add-one, take-suc conflicts i d within)
       (map-append setting_conflict (take i conflicts) (get_or conflicts i d ∷ [])) in
-      subst (λ cs. AreLeft w old cs new) (sym taken) (AreLeft.then c left is)
+      subst (λ cs. AreLeft rule w old cs new) (sym taken) (AreLeft.then c left is)
 
   -- of the conflicts the one at the index is refused
   pub one_not_left : {old mid : Pieces} (conflicts : List Conflict) (i : ℕ) (d : Conflict)
       (refusal : EditError) → i < length conflicts
-      → AreLeft w old (map setting_conflict (take i conflicts)) mid
-      → RefusesToLeave w (setting_conflict (get_or conflicts i d)) mid refusal
-      → RefusesOneToLeave w old (map setting_conflict conflicts) (record { index = i; refusal = refusal })
+      → AreLeft rule w old (map setting_conflict (take i conflicts)) mid
+      → RefusesToLeave rule w (setting_conflict (get_or conflicts i d)) mid refusal
+      → RefusesOneToLeave rule w old (map setting_conflict conflicts)
+      (record { index = i; refusal = refusal })
   one_not_left {old} {mid} conflicts i d refusal within left refused = record {
     before = map setting_conflict (take i conflicts);
     following = map setting_conflict (drop i conflicts);
@@ -194,7 +143,7 @@ module _ (w : WriteOption) where
 
   -- memory is refused before any is left
   pub none_left : (conflicts : List SettingConflict) (p : Pieces)
-      → RefusesOneToLeave w p conflicts (record { index = 0; refusal = TextError (Memory alloc_error) })
+      → RefusesOneToLeave rule w p conflicts (record { index = 0; refusal = TextError (Memory alloc_error) })
   none_left conflicts p = record {
     before = [];
     following = conflicts;
@@ -205,10 +154,16 @@ module _ (w : WriteOption) where
     is_refused = of conflicts;
   }
     where
-      of : (cs : List SettingConflict) → RefusesFirstToLeave w cs p (TextError (Memory alloc_error))
+      of : (cs : List SettingConflict) → RefusesFirstToLeave rule w cs p (TextError (Memory alloc_error))
       of [] = refl
       of (c ∷ cs) =
-          RefusesToLeave.value (memory_refused w c.change.name c.change.key c.change.new p)
+          RefusesToLeave.value (memory_refused rule w c.change.name c.change.key c.change.new p)
+
+  pub refused_early : (side : Option Side) (conflicts : List SettingConflict) (p : Pieces)
+      (refused : RefusedEdit) → refused ≡ refused_before → RefusesUnless rule w side p conflicts refused
+  refused_early (Some s) conflicts p refused is = is
+  refused_early None conflicts p refused is =
+      subst (RefusesOneToLeave rule w p conflicts) (sym is) (none_left conflicts p)
 
 -- the parts of a comment
 module _ (above side has value : List ℕ) where

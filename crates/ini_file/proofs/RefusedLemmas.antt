@@ -16,7 +16,7 @@ use Rattle.ini_dialect.specs.RuledTexts.{RefusesInText, RefusesMadeUnder}
 use Rattle.ini_dialect.specs.SourceLookups.{RefusesToPutUnder, RefusesUnder}
 use Rattle.ini_dialect.specs.declared.rule.Lookup.{Lookup}
 use Rattle.ini_file.specs.Edits.{RefusesMadeBy}
-use Rattle.ini_file.specs.Edits.{is_own}
+use Rattle.ini_dialect.specs.Rules.{is_own}
 use Rattle.ini_file.specs.ValueLists.{RefusesReplaced, RefusesValuesBy}
 use Rattle.ini_file.specs.Further.{FurtherEditing, RefusesFurtherText}
 use Rattle.ini_file.specs.Uncomment.{RefusesToUncomment}

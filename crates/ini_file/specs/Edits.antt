@@ -13,25 +13,12 @@ use Rattle.ini_edit.specs.Made.{HasNothing, HasUnwritableWord}
 use Rattle.ini_edit.specs.WholeTexts.{IsMadeText, RefusesOfText}
 use Rattle.ini_edit.specs.declared.error.EditError.{EditError}
 use Rattle.ini_edit.specs.declared.error.EditError.TheVariants.{Key, Text as TextError}
+use Rattle.ini_dialect.specs.Rules.{is_own}
 use Rattle.ini_dialect.specs.RuledTexts.{HasNothingUnder, IsMadeUnder, RefusesMadeUnder}
-use Rattle.ini_dialect.specs.declared.rule.CaseRule.{CaseRule}
-use Rattle.ini_dialect.specs.declared.rule.CaseRule.TheVariants.{Kept}
 use Rattle.ini_dialect.specs.declared.rule.Lookup.{Lookup}
-use Rattle.ini_dialect.specs.declared.rule.SectionRule.{SectionRule}
-use Rattle.ini_dialect.specs.declared.rule.SectionRule.TheVariants.{First as FirstSection}
-use Rattle.ini_dialect.specs.declared.rule.ValueRule.{ValueRule}
-use Rattle.ini_dialect.specs.declared.rule.ValueRule.TheVariants.{First as FirstValue}
 use Rattle.ini_words.specs.Words.{Word}
 use Rattle.ini_words.specs.declared.options.Options.{Options}
 use Rattle.ini_file.specs.Writing.{IsWriting}
-
--- the rule is the crate's own
-abbrev pub is_own_by : SectionRule → ValueRule → CaseRule → Bool
-is_own_by FirstSection FirstValue Kept = true
-is_own_by _ _ _ = false
-
-abbrev pub is_own : Lookup → Bool
-is_own rule = is_own_by rule.sections rule.values rule.case
 
 -- The text U is T with the edit made in it: under the crate's own rule as `make_edit` of `ini_edit` makes it,
 -- else as that of the rule does.

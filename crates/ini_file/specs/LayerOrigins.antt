@@ -18,7 +18,7 @@ use Rattle.ini_edit.specs.declared.error.EditError.TheVariants.{Text as TextErro
 use Rattle.ini_edit.specs.declared.source.elements.Position.{Position}
 use Rattle.ini_words.specs.Lines.{listed_pair}
 use Rattle.ini_words.specs.Words.{Word}
-use Rattle.ini_file.specs.Edits.{is_own}
+use Rattle.ini_dialect.specs.Rules.{is_own}
 use Rattle.ini_file.specs.Forms.{listing_form}
 use Rattle.ini_file.specs.Layered.{merged_by}
 use Rattle.ini_file.specs.Merges.{AreLoaded, RefusesOther}

@@ -10,7 +10,7 @@ use Rattle.ini_dialect.specs.RuledLayers.{all_set, settings_in_layers}
 use Rattle.ini_dialect.specs.declared.rule.Lookup.{Lookup}
 use Rattle.ini_words.specs.Words.{Word}
 use Rattle.ini_words.specs.declared.options.Options.{Options}
-use Rattle.ini_file.specs.Edits.{is_own}
+use Rattle.ini_dialect.specs.Rules.{is_own}
 use Rattle.ini_file.specs.Merges.{AreLoaded, RefusesOther}
 use Rattle.ini_file.specs.Writing.{IsWriting, Separates}
 use Rattle.ini_file.specs.declared.layers.LayersEnd.{LayersEnd}

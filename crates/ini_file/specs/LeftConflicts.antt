@@ -7,12 +7,13 @@ use Rattle.ini_text.specs.declared.error.Error.TheVariants.{Memory}
 use Rattle.ini_text.specs.declared.write.option.WriteOption.{WriteOption}
 use Rattle.ini_text.specs.declared.write.policy.EscapePolicy.TheVariants.{Basics}
 use Rattle.ini.specs.Texts.{Text}
-use Rattle.ini_edit.specs.SourceEditsComments.{IsCommented, RefusesComment, comments_above}
-use Rattle.ini_edit.specs.SourcePlaces.{PairPlace, pair_place}
-use Rattle.ini_edit.specs.Sources.{Pieces}
+use Rattle.ini_edit.specs.Sources.{Pieces, document_in}
 use Rattle.ini_edit.specs.declared.edit_list.RefusedEdit.{RefusedEdit}
 use Rattle.ini_edit.specs.declared.error.EditError.{EditError}
 use Rattle.ini_edit.specs.declared.error.EditError.TheVariants.{Text as TextError}
+use Rattle.ini_dialect.specs.CommentEdits.{IsCommentedUnder, RefusesCommentUnder, StandsAbove}
+use Rattle.ini_dialect.specs.Lookups.{value_under}
+use Rattle.ini_dialect.specs.declared.rule.Lookup.{Lookup}
 use Rattle.ini_layers.specs.Differences.{SettingChange}
 use Rattle.ini_layers.specs.Merging.{SettingConflict}
 use Rattle.ini_layers.specs.SourceChanges.{IsMade, RefusesValue}
@@ -23,16 +24,22 @@ abbrev pub side_comment : (side : Text) → Option Text → Text
 side_comment side None = side ++ codes " has none"
 side_comment side (Some value) = side ++ (codes ": " ++ escaped Basics value)
 
-module _ (w : WriteOption) where
+-- out of memory before any conflict is left
+abbrev pub refused_before : RefusedEdit
+refused_before = record { index = 0; refusal = TextError (Memory alloc_error) }
+
+module _ (rule : Lookup) (w : WriteOption) where
   -- ours stands where it has a value; else all stays
   abbrev pub MakesOurs : SettingChange → (old new : Pieces) → Type 0
-  MakesOurs c old new = MatchOption c.new (new ≡ old) (λ value. IsMade w c old new)
+  MakesOurs c old new = MatchOption c.new (new ≡ old) (λ value. IsMade rule w c old new)
 
-  -- The comment stands directly above the first pair of the key, after those that stood there. Where there
-  -- is no such pair, all stays.
-  abbrev pub IsPutAbove : (name : Option Text) → (key comment : Text) → (old new : Pieces) → Type 0
-  IsPutAbove name key comment old new = MatchOption (pair_place name key 0 old.sections) (new ≡ old)
-      (λ at. IsCommented old.option w old new name key (comments_above at ++ comment))
+  -- The comment stands directly above the pair of the key that counts, after those that stood there. Where
+  -- there is no such pair, all stays.
+  pub data IsPutAbove (name : Option Text) (key comment : Text) (old new : Pieces) : Type 0 where
+    above : {stood : Text} → StandsAbove rule name key old stood
+        → IsCommentedUnder rule name key w old new (stood ++ comment) → IsPutAbove name key comment old new
+    nowhere : value_under rule name key (document_in old) ≡ None → new ≡ old
+        → IsPutAbove name key comment old new
 
   pub record IsLeft (c : SettingConflict) (old new : Pieces) : Type 0 where
     pub made : Pieces
@@ -49,14 +56,13 @@ module _ (w : WriteOption) where
 
   -- what putting a comment there is refused with
   pub data RefusesAbove (name : Option Text) (key comment : Text) (p : Pieces) : EditError → Type 0 where
-    at_pair : {at : PairPlace} {e : EditError} → pair_place name key 0 p.sections ≡ Some at
-        → RefusesComment p.option w p.sections name key (comments_above at ++ comment) e
-        → RefusesAbove name key comment p e
+    at_pair : {stood : Text} {e : EditError} → StandsAbove rule name key p stood
+        → RefusesCommentUnder rule name key w p (stood ++ comment) e → RefusesAbove name key comment p e
     no_memory : RefusesAbove name key comment p (TextError (Memory alloc_error))
 
   -- what leaving a conflict is refused with: at its value, or at one of the comments
   pub data RefusesToLeave (c : SettingConflict) (old : Pieces) : EditError → Type 0 where
-    value : {e : EditError} → RefusesValue w c.change.name c.change.key c.change.new old e
+    value : {e : EditError} → RefusesValue rule w c.change.name c.change.key c.change.new old e
         → RefusesToLeave c old e
     ours : (made : Pieces) {e : EditError} → MakesOurs c.change old made
         → RefusesAbove c.change.name c.change.key (side_comment (codes "; ours") c.change.new) made e
@@ -81,11 +87,11 @@ module _ (w : WriteOption) where
     pub are_left : AreLeft old before mid
     pub is_refused : RefusesFirstToLeave following mid refused.refusal
 
-  -- where a side is chosen, no conflict is left
+  -- where a side is chosen, no conflict is left, and memory alone may be refused
   abbrev pub AreLeftUnless : Option Side → (old : Pieces) → List SettingConflict → (new : Pieces) → Type 0
   AreLeftUnless (Some _) old conflicts new = new ≡ old
   AreLeftUnless None old conflicts new = AreLeft old conflicts new
 
   abbrev pub RefusesUnless : Option Side → (old : Pieces) → List SettingConflict → RefusedEdit → Type 0
-  RefusesUnless (Some _) old conflicts refused = ⊥
+  RefusesUnless (Some _) old conflicts refused = refused ≡ refused_before
   RefusesUnless None old conflicts refused = RefusesOneToLeave old conflicts refused

@@ -37,6 +37,7 @@ pub mod Reasons
 pub mod Remade
 pub mod Reports
 pub mod Requests
+pub mod Ruled
 pub mod RuledMerges
 pub mod Runs
 pub mod Settings

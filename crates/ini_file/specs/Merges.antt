@@ -12,11 +12,9 @@ use Rattle.ini.specs.Documents.{Document}
 use Rattle.ini.specs.Loading.{IsDocumentOf, IsStopOf, IsTextWith}
 use Rattle.ini.specs.Texts.{Text}
 use Rattle.ini_edit.specs.declared.edit_list.RefusedEdit.{RefusedEdit}
-use Rattle.ini_dialect.specs.declared.rule.Lookup.{Lookup}
-use Rattle.ini_words.specs.Words.{Word}
-use Rattle.ini_words.specs.declared.options.Options.{Options}
 use Rattle.ini_file.specs.Bytes.{byte_order_mark_of}
-use Rattle.ini_file.specs.Edits.{is_own}
+use Rattle.ini_dialect.specs.Rules.{is_own}
+use Rattle.ini_file.specs.Ruled.{RuledBy}
 use Rattle.ini_file.specs.RuledMerges.{HasSettings, RefusesSettingsBy, settings_by}
 use Rattle.ini_file.specs.Writing.{IsWriting}
 use Rattle.ini_file.specs.declared.merge.MergeEnd.{MergeEnd}
@@ -61,48 +59,46 @@ pub record RefusesOther (o : ParseOption) (files : List (List ℕ)) (index : ℕ
 
 -- The bytes are the mark, and after it, in UTF-8, the text T with what the documents set, written as the
 -- options say; where they set nothing T has a document all the same.
-pub record IsMerged (rule : Lookup) (o : Options) (separator : Word) (documents : List Document)
+pub record IsMerged (r : RuledBy) (documents : List Document)
     (byte_order_mark : List ℕ) (T : Text) (bytes : List ℕ) : Type 0 where
   pub option : WriteOption
-  pub is_option : IsWriting o (Some separator) option
+  pub is_option : IsWriting r.options (Some r.separator) option
   pub new : List ℕ
   pub whole : bytes ≡ byte_order_mark ++ new
   pub is_utf8 : IsUtf8 new
-  pub are_made : HasSettings (is_own rule) rule o.reading option
-      (settings_by (is_own rule) rule documents) T (chars new)
-  pub is_read : settings_by (is_own rule) rule documents ≡ [] → HasDocument o.reading T
+  pub are_made : HasSettings (is_own r.rule) r.rule r.options.reading option
+      (settings_by (is_own r.rule) r.rule documents) T (chars new)
+  pub is_read : settings_by (is_own r.rule) r.rule documents ≡ [] → HasDocument r.options.reading T
   -- a file that has no mark gets none, which reading would drop
   pub gets_none : byte_order_mark ≡ [] → has_byte_order_mark new ≡ false
 
 -- the file has no mark, and with what the documents set in its text T it would get one
-pub record GetsMarkMerged (rule : Lookup) (o : Options) (separator : Word) (documents : List Document)
+pub record GetsMarkMerged (r : RuledBy) (documents : List Document)
     (byte_order_mark : List ℕ) (T : Text) : Type 0 where
   pub option : WriteOption
-  pub is_option : IsWriting o (Some separator) option
+  pub is_option : IsWriting r.options (Some r.separator) option
   pub new : List ℕ
   pub is_utf8 : IsUtf8 new
-  pub are_made : HasSettings (is_own rule) rule o.reading option
-      (settings_by (is_own rule) rule documents) T (chars new)
+  pub are_made : HasSettings (is_own r.rule) r.rule r.options.reading option
+      (settings_by (is_own r.rule) r.rule documents) T (chars new)
   pub has_none : byte_order_mark ≡ []
   pub gets : has_byte_order_mark new ≡ true
 
 -- of what the documents set something is refused in the text T
-pub record RefusesMerge (rule : Lookup) (o : Options) (separator : Word) (documents : List Document)
+pub record RefusesMerge (r : RuledBy) (documents : List Document)
     (T : Text) (refused : RefusedEdit) : Type 0 where
   pub option : WriteOption
-  pub is_option : IsWriting o (Some separator) option
-  pub is_refused : RefusesSettingsBy (is_own rule) rule o.reading option
-      (settings_by (is_own rule) rule documents) T refused
+  pub is_option : IsWriting r.options (Some r.separator) option
+  pub is_refused : RefusesSettingsBy (is_own r.rule) r.rule r.options.reading option
+      (settings_by (is_own r.rule) r.rule documents) T refused
 
-module _ (rule : Lookup) (o : Options) (separator : Word) where
+module _ (r : RuledBy) where
   -- how a merge of documents into a text after a mark ends
   abbrev pub EndsOnText : List Document → List ℕ → Text → MergeEnd → Type 0
-  EndsOnText documents byte_order_mark T (Done bytes) =
-      IsMerged rule o separator documents byte_order_mark T bytes.items
-  EndsOnText documents byte_order_mark T (Edit refused) = RefusesMerge rule o separator documents T refused
-  EndsOnText documents byte_order_mark T GetsMark =
-      GetsMarkMerged rule o separator documents byte_order_mark T
-  EndsOnText documents byte_order_mark T (File (Parse e)) = IsStopOf o.reading T e
+  EndsOnText documents byte_order_mark T (Done bytes) = IsMerged r documents byte_order_mark T bytes.items
+  EndsOnText documents byte_order_mark T (Edit refused) = RefusesMerge r documents T refused
+  EndsOnText documents byte_order_mark T GetsMark = GetsMarkMerged r documents byte_order_mark T
+  EndsOnText documents byte_order_mark T (File (Parse e)) = IsStopOf r.options.reading T e
   EndsOnText documents byte_order_mark T (File (Memory _)) = ⊤
   EndsOnText documents byte_order_mark T _ = ⊥
 
@@ -114,6 +110,7 @@ module _ (rule : Lookup) (o : Options) (separator : Word) where
 
   -- how a merge of other files into a file ends
   abbrev pub HasMerge : List ℕ → List (List ℕ) → MergeEnd → Type 0
-  HasMerge input others (Other index e) = RefusesOther o.reading others index e
+  HasMerge input others (Other index e) = RefusesOther r.options.reading others index e
   HasMerge input others end =
-      (documents : List Document) × AreLoaded o.reading others documents × EndsOnBytes documents input end
+      (documents : List Document) × AreLoaded r.options.reading others documents
+      × EndsOnBytes documents input end

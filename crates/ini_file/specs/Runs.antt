@@ -15,7 +15,8 @@ use Rattle.ini_dialect.specs.declared.rule.Lookup.{Lookup}
 use Rattle.ini_words.specs.Words.{Word}
 use Rattle.ini_words.specs.declared.options.Options.{Options}
 use Rattle.ini_file.specs.Bytes.{byte_order_mark_of}
-use Rattle.ini_file.specs.Edits.{HasNothingBy, HasWritableWords, IsChanged, RefusesEdit, is_own}
+use Rattle.ini_file.specs.Edits.{HasNothingBy, HasWritableWords, IsChanged, RefusesEdit}
+use Rattle.ini_dialect.specs.Rules.{is_own}
 use Rattle.ini_file.specs.Further.{HasNothingFurther, IsFurtherChanged, RefusesFurther}
 use Rattle.ini_file.specs.Outputs.{output}
 use Rattle.ini_file.specs.Requests.{Asking, Asks, Request, Ask, Change, Further, separator_asked}

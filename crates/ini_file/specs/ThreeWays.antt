@@ -1,5 +1,5 @@
 -- How a three-way merge of files ends, and its exit status.
-use Rattle.std.specs.Prelude.{◌≡◌, ◌==◌, ℕ, false, true, if◌then◌else◌, List, [], ◌++◌, Option, ⊤, chars}
+use Rattle.std.specs.Prelude.{◌≡◌, ◌==◌, ℕ, false, true, if◌then◌else◌, List, [], ◌++◌, Option, Some, ⊤, chars}
 use Rattle.std.specs.Prelude.{flat_map, unwrap_or, vec_len}
 use Rattle.std.specs.Str.{IsUtf8}
 use Rattle.ini_text.specs.Parsing.ByteOrderMarks.{has_byte_order_mark, without_byte_order_mark}
@@ -10,19 +10,19 @@ use Rattle.ini_text.specs.declared.write.option.WriteOption.{WriteOption}
 use Rattle.ini.specs.Documents.{Document}
 use Rattle.ini.specs.Loading.{IsDocumentOf, IsStopOf, IsTextWith}
 use Rattle.ini.specs.Texts.{Text}
-use Rattle.ini_layers.specs.Merging.{IsMerged, conflicts_of, taken_changes}
+use Rattle.ini_layers.specs.Merging.{IsMerged, conflicts_under, taken_under}
 use Rattle.ini_layers.specs.SourceChanges.{AreMade, RefusesOne}
 use Rattle.ini_layers.specs.declared.merging.Side.{Side}
 use Rattle.ini_layers.specs.declared.merging.Side.TheVariants.{Theirs as TheirSide}
 use Rattle.ini_edit.specs.SourceReads.{AreRead}
 use Rattle.ini_edit.specs.Sources.{Pieces, document_in, text_in}
 use Rattle.ini_edit.specs.declared.edit_list.RefusedEdit.{RefusedEdit}
-use Rattle.ini_words.specs.Words.{IsWriteOption}
-use Rattle.ini_words.specs.declared.options.Options.{Options}
 use Rattle.ini_file.specs.Bytes.{byte_order_mark_of}
 use Rattle.ini_file.specs.ChangeLines.{conflict_line}
 use Rattle.ini_file.specs.LeftConflicts.{AreLeftUnless, RefusesUnless}
 use Rattle.ini_file.specs.Merges.{Loads, RefusesFile}
+use Rattle.ini_file.specs.Ruled.{RuledBy}
+use Rattle.ini_file.specs.Writing.{IsWriting}
 use Rattle.ini_file.specs.declared.three_way.ThreeWayDone.{ThreeWayDone}
 use Rattle.ini_file.specs.declared.three_way.ThreeWayEnd.{ThreeWayEnd}
 use Rattle.ini_file.specs.declared.three_way.ThreeWayEnd.TheVariants.{Base, Change, Conflict, Done, GetsMark}
@@ -55,18 +55,19 @@ pub record GetsMarkWith (byte_order_mark : List ℕ) (p : Pieces) : Type 0 where
 abbrev pub side_below : Option Side → Side
 side_below side = unwrap_or side TheirSide
 
-module _ (o : Options) (side : Option Side) (base ours : Document) (T : Text) where
+module _ (r : RuledBy) (side : Option Side) (base ours : Document) (T : Text) where
   -- Theirs, which has the text T, with the changes of ours. The conflicts are left in it unless a side is
   -- chosen.
   pub record AreMerged (theirs new : Pieces) : Type 0 where
-    pub are_theirs : AreOfText o.reading T theirs
+    pub are_theirs : AreOfText r.options.reading T theirs
     pub option : WriteOption
-    pub is_option : IsWriteOption o option
+    pub is_option : IsWriting r.options (Some r.separator) option
     pub mid : Pieces
-    pub is_merged : IsMerged (side_below side) base ours (document_in theirs) (document_in mid)
-    pub are_made : AreMade option theirs
-        (taken_changes (side_below side) base ours (document_in theirs)) mid
-    pub are_left : AreLeftUnless option side mid (conflicts_of base ours (document_in theirs)) new
+    pub is_merged : IsMerged r.rule (side_below side) base ours (document_in theirs) (document_in mid)
+    pub are_made : AreMade r.rule option theirs
+        (taken_under r.rule (side_below side) base ours (document_in theirs)) mid
+    pub are_left : AreLeftUnless r.rule option side mid
+        (conflicts_under r.rule base ours (document_in theirs)) new
 
   -- the bytes after the mark, and the lines of the conflicts
   pub record IsThreeWay (byte_order_mark : List ℕ) (done : ThreeWayDone) : Type 0 where
@@ -75,7 +76,7 @@ module _ (o : Options) (side : Option Side) (base ours : Document) (T : Text) wh
     pub are_merged : AreMerged theirs new
     pub is_text : IsTextAfter byte_order_mark new done.bytes.items
     pub are_conflicts : done.conflicts.items
-        ≡ flat_map conflict_line (conflicts_of base ours (document_in theirs))
+        ≡ flat_map conflict_line (conflicts_under r.rule base ours (document_in theirs))
 
   -- it would get a mark
   pub record GetsMarkThreeWay (byte_order_mark : List ℕ) : Type 0 where
@@ -87,39 +88,40 @@ module _ (o : Options) (side : Option Side) (base ours : Document) (T : Text) wh
   -- one of the changes is refused
   pub record RefusesChange (refused : RefusedEdit) : Type 0 where
     pub theirs : Pieces
-    pub are_theirs : AreOfText o.reading T theirs
+    pub are_theirs : AreOfText r.options.reading T theirs
     pub option : WriteOption
-    pub is_option : IsWriteOption o option
-    pub is_refused : RefusesOne option theirs
-        (taken_changes (side_below side) base ours (document_in theirs)) refused
+    pub is_option : IsWriting r.options (Some r.separator) option
+    pub is_refused : RefusesOne r.rule option theirs
+        (taken_under r.rule (side_below side) base ours (document_in theirs)) refused
 
   -- one of the conflicts is
   pub record RefusesConflict (refused : RefusedEdit) : Type 0 where
     pub theirs : Pieces
-    pub are_theirs : AreOfText o.reading T theirs
+    pub are_theirs : AreOfText r.options.reading T theirs
     pub option : WriteOption
-    pub is_option : IsWriteOption o option
+    pub is_option : IsWriting r.options (Some r.separator) option
     pub mid : Pieces
-    pub are_made : AreMade option theirs
-        (taken_changes (side_below side) base ours (document_in theirs)) mid
-    pub is_refused : RefusesUnless option side mid (conflicts_of base ours (document_in theirs)) refused
+    pub are_made : AreMade r.rule option theirs
+        (taken_under r.rule (side_below side) base ours (document_in theirs)) mid
+    pub is_refused : RefusesUnless r.rule option side mid
+        (conflicts_under r.rule base ours (document_in theirs)) refused
 
 -- how a merge of two documents into a text after a mark ends
-abbrev pub EndsOnSides : Options → Option Side → (base ours : Document) → List ℕ → Text → ThreeWayEnd → Type 0
-EndsOnSides o side base ours byte_order_mark T (Done done) =
-    IsThreeWay o side base ours T byte_order_mark done
-EndsOnSides o side base ours byte_order_mark T (Change refused) = RefusesChange o side base ours T refused
-EndsOnSides o side base ours byte_order_mark T (Conflict refused) = RefusesConflict o side base ours T refused
-EndsOnSides o side base ours byte_order_mark T GetsMark = GetsMarkThreeWay o side base ours T byte_order_mark
-EndsOnSides o side base ours byte_order_mark T (Theirs (Parse e)) = IsStopOf o.reading T e
-EndsOnSides o side base ours byte_order_mark T (Theirs (Memory _)) = ⊤
-EndsOnSides o side base ours byte_order_mark T _ = ⊥
+abbrev pub EndsOnSides : RuledBy → Option Side → (base ours : Document) → List ℕ → Text → ThreeWayEnd → Type 0
+EndsOnSides r side base ours byte_order_mark T (Done done) =
+    IsThreeWay r side base ours T byte_order_mark done
+EndsOnSides r side base ours byte_order_mark T (Change refused) = RefusesChange r side base ours T refused
+EndsOnSides r side base ours byte_order_mark T (Conflict refused) = RefusesConflict r side base ours T refused
+EndsOnSides r side base ours byte_order_mark T GetsMark = GetsMarkThreeWay r side base ours T byte_order_mark
+EndsOnSides r side base ours byte_order_mark T (Theirs (Parse e)) = IsStopOf r.options.reading T e
+EndsOnSides r side base ours byte_order_mark T (Theirs (Memory _)) = ⊤
+EndsOnSides r side base ours byte_order_mark T _ = ⊥
 
 -- the same of the bytes of theirs, which may be no text
-abbrev pub EndsOnTheirs : Options → Option Side → (base ours : Document) → List ℕ → ThreeWayEnd → Type 0
-EndsOnTheirs o side base ours theirs (Theirs NotUtf8) = ¬ (IsUtf8 (without_byte_order_mark theirs))
-EndsOnTheirs o side base ours theirs end =
-    IsTextWith (λ T. EndsOnSides o side base ours (byte_order_mark_of theirs) T end)
+abbrev pub EndsOnTheirs : RuledBy → Option Side → (base ours : Document) → List ℕ → ThreeWayEnd → Type 0
+EndsOnTheirs r side base ours theirs (Theirs NotUtf8) = ¬ (IsUtf8 (without_byte_order_mark theirs))
+EndsOnTheirs r side base ours theirs end =
+    IsTextWith (λ T. EndsOnSides r side base ours (byte_order_mark_of theirs) T end)
     (without_byte_order_mark theirs)
 
 -- ours has no document, and the base has one
@@ -129,19 +131,19 @@ pub record RefusesOurs (o : ParseOption) (base ours : List ℕ) (e : Error) : Ty
   pub is_refused : RefusesFile o ours e
 
 -- the base and ours have documents, and so it ends
-pub record EndsOnDocuments (o : Options) (side : Option Side) (base ours theirs : List ℕ)
+pub record EndsOnDocuments (r : RuledBy) (side : Option Side) (base ours theirs : List ℕ)
     (end : ThreeWayEnd) : Type 0 where
   pub base_document : Document
   pub ours_document : Document
-  pub is_base : Loads o.reading base base_document
-  pub is_ours : Loads o.reading ours ours_document
-  pub ends : EndsOnTheirs o side base_document ours_document theirs end
+  pub is_base : Loads r.options.reading base base_document
+  pub is_ours : Loads r.options.reading ours ours_document
+  pub ends : EndsOnTheirs r side base_document ours_document theirs end
 
 -- how a merge of files with these bytes ends
-abbrev pub HasThreeWay : Options → Option Side → (base ours theirs : List ℕ) → ThreeWayEnd → Type 0
-HasThreeWay o side base ours theirs (Base e) = RefusesFile o.reading base e
-HasThreeWay o side base ours theirs (Ours e) = RefusesOurs o.reading base ours e
-HasThreeWay o side base ours theirs end = EndsOnDocuments o side base ours theirs end
+abbrev pub HasThreeWay : RuledBy → Option Side → (base ours theirs : List ℕ) → ThreeWayEnd → Type 0
+HasThreeWay r side base ours theirs (Base e) = RefusesFile r.options.reading base e
+HasThreeWay r side base ours theirs (Ours e) = RefusesOurs r.options.reading base ours e
+HasThreeWay r side base ours theirs end = EndsOnDocuments r side base ours theirs end
 
 -- the exit status of a merge whose bytes were handed on: 1 where settings are in conflict
 abbrev pub three_way_status : ThreeWayDone → ℕ

@@ -11,7 +11,7 @@ use Rattle.ini_edit.specs.Sources.{Pieces}
 use Rattle.ini_edit.specs.declared.error.EditError.{EditError}
 use Rattle.ini_dialect.specs.SourceLookups.{AreDeletedUnder, IsAddedUnder, RefusesUnder}
 use Rattle.ini_dialect.specs.declared.rule.Lookup.{Lookup}
-use Rattle.ini_file.specs.Edits.{is_own}
+use Rattle.ini_dialect.specs.Rules.{is_own}
 use Rattle.ini_file.specs.Remade.{IsRemadeText}
 
 -- the texts of words

@@ -4,14 +4,15 @@ ghost use Rattle.std.specs.Prelude.{◌≡◌, IfOk, chars, map, reverse};
 ghost use Rattle.ini_layers.specs.Differences.{setting_change};
 ghost use Rattle.ini_file.specs.Applications.{EndsOnText, HasApplication, turned, undone};
 ghost use Rattle.ini_file.specs.EditLines.{change_read};
+ghost use Rattle.ini_file.specs.Ruled.{ruled_of};
 
 use crate::bytes::text_of;
 use crate::edit_reading::{EditsFault, OwnedChange, read_edits};
+use crate::ruled::Ruled;
 use crate::three_way::text_after;
 use ini::Error;
 use ini_edit::{RefusedEdit, Source};
 use ini_layers::{Change, apply};
-use ini_words::Options;
 use std::alloc::{AllocError, Global};
 
 /// How an application ended.
@@ -32,17 +33,17 @@ pub enum ApplyEnd {
     GetsMark,
 }
 
-/// The file's bytes with the changes that the edits tell; where they are reversed, each setting gets the old
-/// value of its change, the last change first. A mark (EF BB BF) at the front of either is no part of its
-/// text; that of the file stays.
+/// The file's bytes with the changes that the edits tell, made under the rule; where they are reversed, each
+/// setting gets the old value of its change, the last change first. A mark (EF BB BF) at the front of either
+/// is no part of its text; that of the file stays.
 pub fn apply_edits(
     alloc: Global,
-    options: Options,
+    ruled: Ruled<'_>,
     is_reversed: bool,
     edits: &[u8],
     file: &[u8],
 ) -> ApplyEnd
-    ensures { HasApplication options is_reversed edits.now file.now result }
+    ensures { HasApplication (ruled_of ruled.entry) is_reversed edits.now file.now result }
 {
     let text = match text_of(edits) {
         Ok((_, text)) => text,
@@ -57,7 +58,7 @@ pub fn apply_edits(
         return ApplyEnd::Edits(Error::Memory(AllocError));
     };
     match text_of(file) {
-        Ok((mark, text)) => apply_to_text(alloc, options, changes.as_slice(), mark, text),
+        Ok((mark, text)) => apply_to_text(alloc, ruled, changes.as_slice(), mark, text),
         Err(refused) => ApplyEnd::File(refused),
     }
 }
@@ -118,19 +119,23 @@ fn undoing(change: Change<'_>) -> Change<'_>
 // The bytes of a mark and of a text, with the changes.
 fn apply_to_text(
     alloc: Global,
-    options: Options,
+    ruled: Ruled<'_>,
     changes: &[Change<'_>],
     byte_order_mark: &[u8],
     text: &str,
 ) -> ApplyEnd
-    ensures { EndsOnText options (map setting_change changes.now) byte_order_mark.now (chars text.now)
-        result }
+    ensures { EndsOnText (ruled_of ruled.entry) (map setting_change changes.now) byte_order_mark.now
+        (chars text.now) result }
 {
-    let source = match Source::read(alloc, text, options.reading) {
+    let source = match Source::read(alloc, text, ruled.options.reading) {
         Ok(source) => source,
         Err(refused) => return ApplyEnd::File(refused),
     };
-    let new = match apply(alloc, &options.write_option(), changes, &source) {
+    let write = match ruled.write_option(alloc) {
+        Ok(write) => write,
+        Err(refused) => return ApplyEnd::File(refused),
+    };
+    let new = match apply(alloc, ruled.rule, &write, changes, &source) {
         Ok(new) => new,
         Err(refused) => return ApplyEnd::Change(refused),
     };

@@ -54,7 +54,7 @@ fn apply_read(
 ) -> u8 {
     let file = old.unwrap_or(&[]);
     let is_reversed = asked.choices.switches.reverse;
-    match apply_edits(rt.alloc(), asked.options, is_reversed, edits, file) {
+    match apply_edits(rt.alloc(), asked.ruled, is_reversed, edits, file) {
         ApplyEnd::Done(bytes) => {
             let target = Target::of_application(*asked);
             match write_output(rt, coding, target, old, bytes.as_slice()) {
@@ -68,7 +68,7 @@ fn apply_read(
         ApplyEnd::Change(refused) => refuse_change(rt, asked, edits, refused),
         ApplyEnd::GetsMark => {
             let outcome = Outcome::Refused(EditError::Key);
-            let status = refuse(rt, asked.options.reading, asked.file, file, &outcome);
+            let status = refuse(rt, asked.ruled.options.reading, asked.file, file, &outcome);
             note_reason(rt, Reason::ByteOrderMark, None);
             status
         }
@@ -84,7 +84,7 @@ fn refuse_file(
     refusal: FileError,
 ) -> u8 {
     let outcome = Outcome::from(refusal);
-    refuse(rt, asked.options.reading, file, input, &outcome)
+    refuse(rt, asked.ruled.options.reading, file, input, &outcome)
 }
 
 // Tells that a line is no edit, and what one is.
@@ -105,7 +105,7 @@ fn refuse_change(
     edits: &[u8],
     refused: RefusedEdit,
 ) -> u8 {
-    let (read, file) = (asked.options.reading, asked.file);
+    let (read, file) = (asked.ruled.options.reading, asked.file);
     let RefusedEdit { index, refusal } = refused;
     let found = change_at(rt.alloc(), asked, edits, index, &refusal);
     let outcome = Outcome::Refused(refusal);
@@ -139,6 +139,6 @@ fn change_at(
         key,
         value: change.new.unwrap_or(""),
     };
-    let reason = reason_of(Some(edit), asked.options, refusal);
+    let reason = reason_of(Some(edit), asked.ruled.options, refusal);
     Ok((setting_of_file(alloc, asked.file, name, key)?, reason))
 }

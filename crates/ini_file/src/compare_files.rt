@@ -31,8 +31,7 @@ pub fn compare_files(rt: &HostRuntime, named: Option<Encoding>, asked: &Comparis
     let (from, to) = (from.as_slice(), to.as_slice());
     let form = asked.choices.manner.form.unwrap_or(AnswerForm::Lines);
     let is_colored = has_colors(rt, asked, target);
-    let read = asked.options.reading;
-    let end = compare(rt.alloc(), read, form, is_colored, from, to);
+    let end = compare(rt.alloc(), asked.ruled, form, is_colored, from, to);
     let status = compare_status(&end);
     match end {
         CompareEnd::Done(lines) => match write_output(
@@ -68,6 +67,6 @@ fn refuse_comparison(
     refusal: FileError,
 ) -> u8 {
     let outcome = Outcome::from(refusal);
-    refuse(rt, asked.options.reading, file, input, &outcome);
+    refuse(rt, asked.ruled.options.reading, file, input, &outcome);
     2
 }

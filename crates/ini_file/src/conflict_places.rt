@@ -6,11 +6,14 @@
 use crate::bytes::text_of;
 use crate::diagnosis::end_of;
 use crate::merge::load;
+use crate::ruled::Ruled;
 use crate::shown::Shown;
 use crate::side_words::ThreeWay;
-use ini::{Error, ParseOption};
-use ini_edit::{Source, find_pair};
-use ini_layers::{Change, conflicts};
+use crate::value_places::pair_place;
+use crate::words::Wanted;
+use ini::Error;
+use ini_edit::Source;
+use ini_layers::{Change, FlatSides};
 use std::alloc::Global;
 use std::io::Write;
 
@@ -30,13 +33,9 @@ pub fn tell_places(
 // A line for each conflict.
 fn place_lines(alloc: Global, asked: &ThreeWay<'_>, files: [&[u8]; 3]) -> Result<String, Error> {
     let [base_bytes, ours_bytes, theirs_bytes] = files;
-    let read = asked.options.reading;
-    let base = load(alloc, read, base_bytes)?;
-    let ours = load(alloc, read, ours_bytes)?;
-    let (_, text) = text_of(theirs_bytes)?;
-    let theirs = Source::read(alloc, text, read)?;
+    let sides = flat_sides(alloc, asked.ruled, base_bytes, ours_bytes, theirs_bytes)?;
     let mut lines = String::new(alloc);
-    for conflict in conflicts(alloc, &base, &ours, &theirs)?.as_slice() {
+    for conflict in sides.conflicts(alloc)?.as_slice() {
         push_line(alloc, &mut lines, asked, files, conflict.change)?;
     }
     Ok(lines)
@@ -59,7 +58,7 @@ fn push_line(
     lines.push_str(setting.as_str())?;
     let mut is_first = true;
     for (name, bytes) in names.iter().zip(files.iter()) {
-        if let Some((line, column)) = place_of(alloc, asked.options.reading, *bytes, change)? {
+        if let Some((line, column)) = place_of(alloc, asked.ruled, *bytes, change)? {
             let (between, name) = (if is_first { ": " } else { ", " }, Shown(*name));
             let place = format!(in alloc; "{between}{name}:{line}:{column}")?;
             lines.push_str(place.as_str())?;
@@ -70,18 +69,41 @@ fn push_line(
     Ok(())
 }
 
-// The line and the column at which a setting's pair begins in a file, if it is there.
+/// What three files answer under a rule.
+pub fn flat_sides(
+    alloc: Global,
+    ruled: Ruled<'_>,
+    base: &[u8],
+    ours: &[u8],
+    theirs: &[u8],
+) -> Result<FlatSides, Error> {
+    let read = ruled.options.reading;
+    let base = load(alloc, read, base)?;
+    let ours = load(alloc, read, ours)?;
+    let (_, text) = text_of(theirs)?;
+    let theirs = Source::read(alloc, text, read)?;
+    FlatSides::new(alloc, ruled.rule, &base, &ours, &theirs)
+}
+
+// The line and the column at which the pair of a setting that counts begins in a file, if it is there.
 fn place_of(
     alloc: Global,
-    read: ParseOption,
+    ruled: Ruled<'_>,
     file: &[u8],
     change: Change<'_>,
 ) -> Result<Option<(usize, usize)>, Error> {
     let (_, text) = text_of(file)?;
-    let found = find_pair(alloc, text, read, change.name, change.key)?;
-    let Some(pair) = found else {
+    let (section, default) = (change.name, None);
+    let wanted = Wanted {
+        rule: ruled.rule,
+        key: change.key,
+        section,
+        all: false,
+        default,
+        null: false,
+    };
+    let Some(place) = pair_place(alloc, text, ruled.options.reading, wanted) else {
         return Ok(None);
     };
-    let place = end_of(pair.front);
-    Ok(Some(place))
+    Ok(text.get(..place).map(end_of))
 }

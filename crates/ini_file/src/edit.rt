@@ -4,12 +4,13 @@ ghost use Rattle.ini_text.specs.Parsing.ByteOrderMarks.{has_byte_order_mark};
 ghost use Rattle.ini_edit.specs.Editings.{editing_of};
 ghost use Rattle.ini_text.specs.Parsing.Items.{string_text};
 ghost use Rattle.ini_file.specs.Edits.{HasNothingBy, HasWritableWords, IsChanged, IsMadeBy, RefusesEdit};
-ghost use Rattle.ini_file.specs.Edits.{RefusesMadeBy, is_own};
+ghost use Rattle.ini_file.specs.Edits.{RefusesMadeBy};
+ghost use Rattle.ini_dialect.specs.Rules.{is_own};
 ghost use Rattle.ini_file.specs.Writing.{word_of};
 
 use crate::bytes::concat;
 use crate::writing::writing;
-use ini_dialect::{CaseRule, Lookup, SectionRule, ValueRule};
+use ini_dialect::Lookup;
 use ini_edit::{Edit, EditError, make_edit};
 use ini_text::{ParseOption, WriteOption, has_byte_order_mark};
 use ini_words::Options;
@@ -42,7 +43,7 @@ pub fn change(
         (editing_of edit.entry) byte_order_mark.now (chars text.now)) }
 {
     let write = writing(alloc, options, separator)?;
-    let own = is_own(rule);
+    let own = rule.is_own();
     let Some(new) = made_by(alloc, own, rule, text, options.reading, &write, edit)? else {
         return Ok(None);
     };
@@ -76,16 +77,6 @@ fn made_by(
         make_edit(alloc, text, read, write, edit)
     } else {
         rule.make_edit(alloc, text, read, write, edit)
-    }
-}
-
-/// Whether the rule is the crate's own.
-pub(crate) fn is_own(rule: Lookup) -> bool
-    ensures { result ≡ is_own rule }
-{
-    match (rule.sections, rule.values, rule.case) {
-        (SectionRule::First, ValueRule::First, CaseRule::Kept) => true,
-        _ => false,
     }
 }
 

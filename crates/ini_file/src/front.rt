@@ -4,10 +4,12 @@ ghost use Rattle.std.specs.Prelude.{◌≡◌, map, string_bytes};
 ghost use Rattle.std.specs.Option.{option_map};
 ghost use Rattle.ini_dialect.specs.Dialects.{shown};
 ghost use Rattle.ini_file.specs.Choices.{chosen_of};
+ghost use Rattle.ini_file.specs.Ruled.{ruled_call, ruled_of};
 ghost use Rattle.ini_file.specs.Fronts.{call_of, call_separator, call_with, called, front_of, fronted};
 ghost use Rattle.ini_file.specs.Fronts.{liked, liked_by, options_like};
 
 use crate::choices::Choices;
+use crate::ruled::Ruled;
 use ini_dialect::Dialect;
 use ini_words::Options;
 
@@ -88,6 +90,17 @@ impl<'a> Call<'a> {
     {
         let (choices, dialect) = (self.choices, self.dialect);
         choices.separator.unwrap_or(dialect.write.kv_separator)
+    }
+
+    /// How the files are read, looked up in and written.
+    pub fn ruled(self) -> Ruled<'a>
+        ensures { ruled_of result ≡ ruled_call (call_of self.entry) }
+    {
+        Ruled {
+            options: self.options,
+            rule: self.dialect.lookup,
+            separator: self.separator(),
+        }
     }
 }
 

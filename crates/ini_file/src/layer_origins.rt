@@ -2,12 +2,11 @@
 //! function of their names and bytes. This file knows no word of the program and no device.
 ghost use Rattle.std.specs.Prelude.{◌≡◌, ◌++◌, ◌∷◌, [], IfOk, OnOk, chars, map, string_bytes, unwrap_or};
 ghost use Rattle.ini.specs.Texts.{str_name, str_text};
-ghost use Rattle.ini_file.specs.Edits.{is_own};
+ghost use Rattle.ini_dialect.specs.Rules.{is_own};
 ghost use Rattle.ini_file.specs.LayerOrigins.{AreOriginLines, ArePlaced, HasLayerOrigins, lines_with_places};
 ghost use Rattle.ini_file.specs.LayerOrigins.{name_at, pair_with_place, section_with_places, value_by};
 ghost use Rattle.ini_file.specs.Merges.{bytes_of};
 
-use crate::edit::is_own;
 use crate::layers::{LayersEnd, merged_under};
 use crate::merge::load_all;
 use crate::origins::push_placed_pair;
@@ -161,7 +160,7 @@ fn place_of<'a>(rule: Lookup, places: &'a Ini, name: Option<&str>, key: &str) ->
     ensures { str_text result ≡ unwrap_or
         (value_by (is_own rule) rule (str_name name.entry) (chars key.now) places.now) [] }
 {
-    if is_own(rule) {
+    if rule.is_own() {
         return places.get_from_or(name, key, "");
     }
     rule.get_or_empty(AnyDocument::Ini(places), name, key)

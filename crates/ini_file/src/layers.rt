@@ -1,11 +1,10 @@
 //! One document of several files, as a function of their bytes. This file knows no word of the program and no
 //! device.
 ghost use Rattle.std.specs.Prelude.{◌≡◌, IfOk, IsOkUnless, alloc_error};
-ghost use Rattle.ini_file.specs.Edits.{is_own};
+ghost use Rattle.ini_dialect.specs.Rules.{is_own};
 ghost use Rattle.ini_file.specs.Layered.{HasLayers, IsMergedText, merged_by};
 ghost use Rattle.ini_file.specs.Merges.{bytes_of};
 
-use crate::edit::is_own;
 use crate::merge::load_all;
 use crate::writing::{separates, writing};
 use ini::{Error, Ini};
@@ -78,7 +77,7 @@ pub fn merged_under(alloc: Global, rule: Lookup, layers: &Layers) -> Result<Ini,
     ensures merged { IfOk result (λ document. document ≡ merged_by (is_own rule) rule layers.now) }
     ensures only { IsOkUnless result (Error.Memory alloc_error) }
 {
-    if is_own(rule) {
+    if rule.is_own() {
         return layers.merged();
     }
     rule.merged(alloc, layers.as_slice())

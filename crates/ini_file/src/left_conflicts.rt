@@ -1,27 +1,25 @@
 //! The conflicts of a merge, left in a text in pieces: ours stands, and comments above the key tell the
 //! values of both. This file knows the text by its calls, and no device.
-ghost use Rattle.std.specs.Prelude.{◌≡◌, ◌++◌, ℕ, IfErr, IfOk, List, OnOk, chars, map};
+ghost use Rattle.std.specs.Prelude.{◌≡◌, ◌++◌, ℕ, IfErr, IfOk, List, OnOk, chars, flat_map, map};
 ghost use Rattle.ini.specs.Texts.{str_name, text_of};
-ghost use Rattle.ini_edit.specs.Sources.{document_in};
 ghost use Rattle.ini_layers.specs.Differences.{setting_change};
 ghost use Rattle.ini_layers.specs.Merging.{conflicts_of, setting_conflict};
 ghost use Rattle.ini_layers.specs.SourceChanges.{RefusesValue};
-ghost use Rattle.ini_file.specs.ChangeLines.{escaped_part};
+ghost use Rattle.ini_file.specs.ChangeLines.{conflict_line, escaped_part};
 ghost use Rattle.ini_file.specs.LeftConflicts.{AreLeft, AreLeftUnless, IsLeft, IsPutAbove, MakesOurs};
 ghost use Rattle.ini_file.specs.LeftConflicts.{RefusesAbove, RefusesOneToLeave, RefusesToLeave};
-ghost use Rattle.ini_file.specs.LeftConflicts.{RefusesUnless, side_comment};
+ghost use Rattle.ini_file.specs.LeftConflicts.{RefusesUnless, refused_before, side_comment};
 
-use crate::change_lines::push_parts;
-use ini::Ini;
-use ini_edit::{EditError, LaterPairs, RefusedEdit, Source};
-use ini_layers::{Change, Conflict, Side, conflicts};
+use crate::change_lines::{conflict_lines, push_parts};
+use ini_dialect::Lookup;
+use ini_edit::{EditError, RefusedEdit, Source};
+use ini_layers::{Change, Conflict, FlatSides, Side, apply_in_place};
 use ini_text::{Error, WriteOption};
 use std::alloc::{AllocError, Global};
 
-/// Leaves both values of each conflict in a text in which theirs stands, unless a side is chosen. Ours is
-/// set where it has a value; where it has none, the pair of theirs stays. Two comment lines directly above
-/// the pair, after those that stand there, tell what each side has. The conflicts are those of the documents
-/// and of `theirs`, which the text was merged from.
+/// Leaves both values of each conflict in a text in which theirs stands, unless a side is chosen, and answers
+/// a line for each. Ours is set where it has a value; where it has none, the pair of theirs stays. Two
+/// comment lines directly above the pair that counts, after those that stand there, tell what each side has.
 ///
 /// # Errors
 ///
@@ -29,59 +27,55 @@ use std::alloc::{AllocError, Global};
 /// 0. Those before it are left then, so this is for pieces that are dropped.
 pub fn leave_conflicts(
     alloc: Global,
+    rule: Lookup,
     write: &WriteOption,
     side: Option<Side>,
-    base: &Ini,
-    ours: &Ini,
-    theirs: &Source<'_>,
+    sides: &FlatSides,
     source: &mut Source<'_>,
-) -> Result<(), RefusedEdit>
-    ensures left { OnOk result (AreLeftUnless write.now side source.old
-        (conflicts_of base.now ours.now (document_in theirs.now)) source.new) }
-    ensures refused { IfErr result (RefusesUnless write.now side source.old
-        (conflicts_of base.now ours.now (document_in theirs.now))) }
+) -> Result<Vec<u8>, RefusedEdit>
+    ensures left { OnOk result (AreLeftUnless rule write.now side source.old
+        (conflicts_of sides.now.base sides.now.ours sides.now.theirs) source.new) }
+    ensures lines { IfOk result (λ lines. lines.items
+        ≡ flat_map conflict_line (conflicts_of sides.now.base sides.now.ours sides.now.theirs)) }
+    ensures refused { IfErr result (RefusesUnless rule write.now side source.old
+        (conflicts_of sides.now.base sides.now.ours sides.now.theirs)) }
 {
-    match side {
-        Some(_) => Ok(()),
-        None => leave_all(alloc, write, base, ours, theirs, source),
+    let Ok(conflicts) = sides.conflicts(alloc) else {
+        return Err(no_memory());
+    };
+    let conflicts = conflicts.as_slice();
+    let Ok(lines) = conflict_lines(alloc, conflicts) else {
+        return Err(no_memory());
+    };
+    if side.is_none() {
+        leave_each(alloc, rule, write, conflicts, source)?;
     }
+    Ok(lines)
 }
 
-// Leaves all of them.
-fn leave_all(
-    alloc: Global,
-    write: &WriteOption,
-    base: &Ini,
-    ours: &Ini,
-    theirs: &Source<'_>,
-    source: &mut Source<'_>,
-) -> Result<(), RefusedEdit>
-    ensures left { OnOk result (AreLeft write.now source.old
-        (conflicts_of base.now ours.now (document_in theirs.now)) source.new) }
-    ensures refused { IfErr result (RefusesOneToLeave write.now source.old
-        (conflicts_of base.now ours.now (document_in theirs.now))) }
+// Out of memory before any conflict is left.
+fn no_memory() -> RefusedEdit
+    ensures { result ≡ refused_before }
 {
-    let Ok(conflicts) = conflicts(alloc, base, ours, theirs) else {
-        let refusal = EditError::Text(Error::Memory(AllocError));
-        return Err(RefusedEdit { index: 0, refusal });
-    };
-    leave_each(alloc, write, conflicts.as_slice(), source)
+    let refusal = EditError::Text(Error::Memory(AllocError));
+    RefusedEdit { index: 0, refusal }
 }
 
 // Leaves one after another.
 fn leave_each(
     alloc: Global,
+    rule: Lookup,
     write: &WriteOption,
     conflicts: &[Conflict<'_>],
     source: &mut Source<'_>,
 ) -> Result<(), RefusedEdit>
     ensures left { OnOk result
-        (AreLeft write.now source.old (map setting_conflict conflicts.now) source.new) }
+        (AreLeft rule write.now source.old (map setting_conflict conflicts.now) source.new) }
     ensures refused { IfErr result
-        (RefusesOneToLeave write.now source.old (map setting_conflict conflicts.now)) }
+        (RefusesOneToLeave rule write.now source.old (map setting_conflict conflicts.now)) }
 {
     for (index, conflict) in conflicts.iter().enumerate() {
-        if let Err(refusal) = leave(alloc, write, *conflict, source) {
+        if let Err(refusal) = leave(alloc, rule, write, *conflict, source) {
             return Err(RefusedEdit { index, refusal });
         }
     }
@@ -91,35 +85,38 @@ fn leave_each(
 // Leaves one.
 fn leave(
     alloc: Global,
+    rule: Lookup,
     write: &WriteOption,
     conflict: Conflict<'_>,
     source: &mut Source<'_>,
 ) -> Result<(), EditError>
-    ensures left { OnOk result (IsLeft write.now (setting_conflict conflict.entry) source.old source.new) }
+    ensures left { OnOk result
+        (IsLeft rule write.now (setting_conflict conflict.entry) source.old source.new) }
     ensures refused { IfErr result
-        (RefusesToLeave write.now (setting_conflict conflict.entry) source.old) }
+        (RefusesToLeave rule write.now (setting_conflict conflict.entry) source.old) }
 {
     let (change, theirs) = (conflict.change, conflict.theirs);
-    make_ours(alloc, write, change, source)?;
-    put_above(alloc, write, change, ("; ours", change.new), source)?;
-    put_above(alloc, write, change, ("; theirs", theirs), source)?;
+    make_ours(alloc, rule, write, change, source)?;
+    put_above(alloc, rule, write, change, ("; ours", change.new), source)?;
+    put_above(alloc, rule, write, change, ("; theirs", theirs), source)?;
     Ok(())
 }
 
 // Sets the value of ours where it has one.
 fn make_ours(
     alloc: Global,
+    rule: Lookup,
     write: &WriteOption,
     change: Change<'_>,
     source: &mut Source<'_>,
 ) -> Result<(), EditError>
-    ensures made { OnOk result (MakesOurs write.now (setting_change change.entry) source.old source.new) }
-    ensures refused { IfErr result (RefusesValue write.now (str_name change.entry.name)
+    ensures made { OnOk result
+        (MakesOurs rule write.now (setting_change change.entry) source.old source.new) }
+    ensures refused { IfErr result (RefusesValue rule write.now (str_name change.entry.name)
         (chars change.entry.key.now) (str_name change.entry.new) source.old) }
 {
-    let (name, key, later) = (change.name, change.key, LaterPairs::TakenOut);
     match change.new {
-        Some(value) => source.set(alloc, write, later, name, key, value),
+        Some(_) => apply_in_place(alloc, rule, write, change, source),
         None => Ok(()),
     }
 }
@@ -128,26 +125,28 @@ fn make_ours(
 // there is such a pair.
 fn put_above(
     alloc: Global,
+    rule: Lookup,
     write: &WriteOption,
     change: Change<'_>,
     told: (&str, Option<&str>),
     source: &mut Source<'_>,
 ) -> Result<bool, EditError>
-    ensures put { OnOk result (IsPutAbove write.now (str_name change.entry.name) (chars change.entry.key.now)
+    ensures put { OnOk result (IsPutAbove rule write.now (str_name change.entry.name)
+        (chars change.entry.key.now)
         (side_comment (chars told.entry.0.now) (str_name told.entry.1)) source.old source.new) }
     ensures refused { IfErr result
-        (RefusesAbove write.now (str_name change.entry.name) (chars change.entry.key.now)
+        (RefusesAbove rule write.now (str_name change.entry.name) (chars change.entry.key.now)
         (side_comment (chars told.entry.0.now) (str_name told.entry.1)) source.old) }
 {
     let (name, key) = (change.name, change.key);
     let (side, value) = told;
-    let Some(above) = source.comment_of(name, key) else {
+    let Some(above) = rule.comment_of_in_source(source, name, key) else {
         return Ok(false);
     };
     let Ok(comment) = comment_after(alloc, above, side, value) else {
         return Err(EditError::Text(Error::Memory(AllocError)));
     };
-    source.set_comment(alloc, write, name, key, comment.as_str())
+    rule.set_comment_in_source(alloc, write, source, name, key, comment.as_str())
 }
 
 // Comment lines, and after them what a side has.

@@ -65,6 +65,7 @@ mod report;
 mod report_format;
 mod reported;
 mod rights;
+mod ruled;
 mod ruled_merge;
 mod run;
 mod sarif;

@@ -4,16 +4,15 @@ ghost use Rattle.std.specs.Prelude.{◌≡◌, ◌++◌, ◌∷◌, [], IfErr, I
 ghost use Rattle.ini.specs.Documents.{Document};
 ghost use Rattle.ini_file.specs.Merges.{AreLoaded, EndsOnText, HasMerge, Loads, RefusesFile, RefusesOther};
 ghost use Rattle.ini_file.specs.Merges.{bytes_of};
+ghost use Rattle.ini_file.specs.Ruled.{ruled_of};
 
 use crate::bytes::{concat, text_of};
 use crate::edit::gets_byte_order_mark;
+use crate::ruled::Ruled;
 use crate::ruled_merge::{settings_by, with_settings};
-use crate::writing::writing;
 use ini::{Error, Ini, ParseOption};
-use ini_dialect::Lookup;
 use ini_edit::RefusedEdit;
 use ini_layers::{Layers, NoLayer};
-use ini_words::Options;
 use std::alloc::{AllocError, Global};
 
 /// How a merge ended.
@@ -36,22 +35,15 @@ pub enum MergeEnd {
 /// section is set to the value that counts there; the separator stands in new lines where the file has none
 /// to go by. A mark (EF BB BF) at the front of any is no part of its text; that of the file stays. All others
 /// are read before the file is, which is read too where they set nothing.
-pub fn merge(
-    alloc: Global,
-    rule: Lookup,
-    options: Options,
-    separator: &str,
-    input: &[u8],
-    others: &[Vec<u8>],
-) -> MergeEnd
-    ensures { HasMerge rule options separator.now input.now (bytes_of others.now) result }
+pub fn merge(alloc: Global, ruled: Ruled<'_>, input: &[u8], others: &[Vec<u8>]) -> MergeEnd
+    ensures { HasMerge (ruled_of ruled.entry) input.now (bytes_of others.now) result }
 {
-    let documents = match load_all(alloc, options.reading, others) {
+    let documents = match load_all(alloc, ruled.options.reading, others) {
         Ok(documents) => documents,
         Err((index, refusal)) => return MergeEnd::Other(index, refusal),
     };
     match text_of(input) {
-        Ok((front, text)) => merge_text(alloc, rule, options, separator, &documents, front, text),
+        Ok((front, text)) => merge_text(alloc, ruled, &documents, front, text),
         Err(refused) => MergeEnd::File(refused),
     }
 }
@@ -59,29 +51,27 @@ pub fn merge(
 // What documents set, set in a text after a mark.
 fn merge_text(
     alloc: Global,
-    rule: Lookup,
-    options: Options,
-    separator: &str,
+    ruled: Ruled<'_>,
     documents: &Layers,
     byte_order_mark: &[u8],
     text: &str,
 ) -> MergeEnd
-    ensures { EndsOnText rule options separator.now documents.now byte_order_mark.now (chars text.now)
-        result }
+    ensures { EndsOnText (ruled_of ruled.entry) documents.now byte_order_mark.now (chars text.now) result }
 {
-    let Ok(edits) = settings_by(alloc, rule, documents) else {
+    let read = ruled.options.reading;
+    let Ok(edits) = settings_by(alloc, ruled.rule, documents) else {
         return MergeEnd::File(Error::Memory(AllocError));
     };
     if edits.is_empty() {
-        if let Err(refused) = Ini::load_from_str_opt(alloc, text, options.reading) {
+        if let Err(refused) = Ini::load_from_str_opt(alloc, text, read) {
             return MergeEnd::File(refused);
         }
     }
-    let write = match writing(alloc, options, Some(separator)) {
+    let write = match ruled.write_option(alloc) {
         Ok(write) => write,
         Err(refused) => return MergeEnd::File(refused),
     };
-    let new = match with_settings(alloc, rule, text, options.reading, &write, edits.as_slice()) {
+    let new = match with_settings(alloc, ruled.rule, text, read, &write, edits.as_slice()) {
         Ok(new) => new,
         Err(refused) => return MergeEnd::Edit(refused),
     };

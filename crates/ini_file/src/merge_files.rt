@@ -21,7 +21,7 @@ use std::alloc::{AllocError, Global};
 ///
 /// No contract says what a disk gets; `tests/files.sh` tests it.
 pub fn merge_files(rt: &HostRuntime, named: Option<Encoding>, merging: &Merging<'_>) -> u8 {
-    let read = merging.options.reading;
+    let read = merging.ruled.options.reading;
     let mut others = Vec::new(rt.alloc());
     for other in merging.others {
         let refused = match read_input(rt, named, other.as_str()) {
@@ -59,16 +59,9 @@ fn merge_read(
     old: Option<&[u8]>,
     others: &[Vec<u8>],
 ) -> u8 {
-    let (read, file) = (merging.options.reading, merging.file);
+    let (read, file) = (merging.ruled.options.reading, merging.file);
     let input = old.unwrap_or(&[]);
-    match merge(
-        rt.alloc(),
-        merging.rule,
-        merging.options,
-        merging.separator,
-        input,
-        others,
-    ) {
+    match merge(rt.alloc(), merging.ruled, input, others) {
         MergeEnd::Done(bytes) => {
             let target = Target::of_merging(*merging);
             match write_output(rt, coding, target, old, bytes.as_slice()) {
@@ -102,7 +95,7 @@ fn refuse_setting(
     index: usize,
     refusal: EditError,
 ) -> u8 {
-    let (read, file) = (merging.options.reading, merging.file);
+    let (read, file) = (merging.ruled.options.reading, merging.file);
     let found = setting_at(rt.alloc(), merging, others, index, &refusal);
     let outcome = Outcome::Refused(refusal);
     let Ok((name, reason)) = found else {
@@ -123,13 +116,13 @@ fn setting_at(
     index: usize,
     refusal: &EditError,
 ) -> Result<(String, Option<(Reason, Option<Help>)>), AllocError> {
-    let Ok(documents) = load_all(alloc, merging.options.reading, others) else {
+    let Ok(documents) = load_all(alloc, merging.ruled.options.reading, others) else {
         return Err(AllocError);
     };
-    let edits = settings_by(alloc, merging.rule, &documents)?;
+    let edits = settings_by(alloc, merging.ruled.rule, &documents)?;
     let file = merging.file;
     let edit = *edits.get(index).ok_or(AllocError)?;
-    let reason = reason_of(Some(edit), merging.options, refusal);
+    let reason = reason_of(Some(edit), merging.ruled.options, refusal);
     let Edit::Set { name, key, .. } = edit else {
         return Err(AllocError);
     };

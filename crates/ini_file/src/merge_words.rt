@@ -6,18 +6,13 @@ ghost use Rattle.ini_file.specs.MergeWords.{merge_asked, merging_of};
 
 use crate::choices::Choices;
 use crate::front::Call;
-use ini_dialect::Lookup;
-use ini_words::Options;
+use crate::ruled::Ruled;
 
 /// What the words of a merge are.
 #[derive(Clone, Copy)]
 pub struct Merging<'a> {
-    /// How the files' pairs are looked up, and set in the file.
-    pub rule: Lookup,
-    /// How the files are read, and the file is written.
-    pub options: Options,
-    /// What stands between key and value in new lines, where the file has nothing to go by.
-    pub separator: &'a str,
+    /// How the files are read and looked up in, and the file is written.
+    pub ruled: Ruled<'a>,
     /// The options after the command.
     pub choices: Choices<'a>,
     /// The file's name; `-` is standard input.
@@ -35,9 +30,7 @@ pub fn merge_of<'a>(call: Call<'a>) -> Option<Merging<'a>>
         return None;
     }
     Some(Merging {
-        rule: call.dialect.lookup,
-        options: call.options,
-        separator: call.separator(),
+        ruled: call.ruled(),
         choices: call.choices,
         file: file.as_str(),
         others,

@@ -3,12 +3,11 @@ ghost use Rattle.std.specs.Prelude.{◌≡◌, IfErr, IfOk, OnOk, chars, map};
 ghost use Rattle.ini_text.specs.Parsing.Items.{string_text};
 ghost use Rattle.ini_edit.specs.Editings.{editing_of};
 ghost use Rattle.ini_edit.specs.declared.error.EditError.TheVariants as EditErrors;
-ghost use Rattle.ini_file.specs.Edits.{is_own};
+ghost use Rattle.ini_dialect.specs.Rules.{is_own};
 ghost use Rattle.ini_file.specs.Remade.{IsRemadeText};
 ghost use Rattle.ini_file.specs.RuledMerges.{AreSettingsMade, HasSettings, MakesSetting, RefusesOneSetting};
 ghost use Rattle.ini_file.specs.RuledMerges.{RefusesSetting, RefusesSettings, RefusesSettingsBy, settings_by};
 
-use crate::edit::is_own;
 use crate::settings::settings_of;
 use ini_dialect::Lookup;
 use ini_edit::{Edit, EditError, RefusedEdit, Source, make_edits};
@@ -27,7 +26,7 @@ pub fn settings_by(
     ensures { IfOk result (λ edits. map editing_of edits.items
         ≡ settings_by (is_own rule) rule documents.now) }
 {
-    if is_own(rule) {
+    if rule.is_own() {
         settings_of(alloc, documents)
     } else {
         rule.settings(alloc, documents.as_slice())
@@ -54,7 +53,7 @@ pub fn with_settings(
     ensures refused { IfErr result (RefusesSettingsBy (is_own rule) rule read write.now
         (map editing_of edits.now) (chars text.now)) }
 {
-    if is_own(rule) {
+    if rule.is_own() {
         let edited = make_edits(alloc, text, read, write, edits)?;
         return Ok(edited.text);
     }

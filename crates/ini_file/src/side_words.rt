@@ -8,13 +8,13 @@ ghost use Rattle.ini_file.specs.SideWords.{three_way_asked, three_way_of};
 
 use crate::choices::Choices;
 use crate::front::Call;
-use ini_words::Options;
+use crate::ruled::Ruled;
 
 /// What the words of `diff` are.
 #[derive(Clone, Copy)]
 pub struct Comparison<'a> {
-    /// How the files are read.
-    pub options: Options,
+    /// How the files are read and looked up in.
+    pub ruled: Ruled<'a>,
     /// The options after the command.
     pub choices: Choices<'a>,
     /// The name of the first file; `-` is standard input.
@@ -26,8 +26,8 @@ pub struct Comparison<'a> {
 /// What the words of `apply` are.
 #[derive(Clone, Copy)]
 pub struct Application<'a> {
-    /// How the file is read and written.
-    pub options: Options,
+    /// How the file is read, looked up in and written.
+    pub ruled: Ruled<'a>,
     /// The options after the command.
     pub choices: Choices<'a>,
     /// The name of the file; `-` is standard input.
@@ -39,8 +39,8 @@ pub struct Application<'a> {
 /// What the words of `merge3` are.
 #[derive(Clone, Copy)]
 pub struct ThreeWay<'a> {
-    /// How the files are read, and what is made of them is written.
-    pub options: Options,
+    /// How the files are read and looked up in, and what is made of them is written.
+    pub ruled: Ruled<'a>,
     /// The options after the command.
     pub choices: Choices<'a>,
     /// The name of the file that both others come from; `-` is standard input.
@@ -57,7 +57,7 @@ pub fn comparison_of<'a>(call: Call<'a>) -> Option<Comparison<'a>>
 {
     match call.words {
         [from, to] => Some(Comparison {
-            options: call.options,
+            ruled: call.ruled(),
             choices: call.choices,
             from: from.as_str(),
             to: to.as_str(),
@@ -77,7 +77,7 @@ pub fn application_of<'a>(call: Call<'a>) -> Option<Application<'a>>
         _ => return None,
     };
     Some(Application {
-        options: call.options,
+        ruled: call.ruled(),
         choices: call.choices,
         file,
         edits,
@@ -90,7 +90,7 @@ pub fn three_way_of<'a>(call: Call<'a>) -> Option<ThreeWay<'a>>
 {
     match call.words {
         [base, ours, theirs] => Some(ThreeWay {
-            options: call.options,
+            ruled: call.ruled(),
             choices: call.choices,
             base: base.as_str(),
             ours: ours.as_str(),

@@ -1,23 +1,23 @@
 //! Two files that come from one, merged setting by setting, as a function of their bytes. This file knows no
 //! word of the program and no device.
-ghost use Rattle.std.specs.Prelude.{◌≡◌, IfErr, IfOk, MatchOption, chars, flat_map};
+ghost use Rattle.std.specs.Prelude.{◌≡◌, IfErr, IfOk, MatchOption, chars};
 ghost use Rattle.ini_edit.specs.Sources.{document_in};
-ghost use Rattle.ini_layers.specs.Merging.{IsMerged, conflicts_of, taken_changes};
+ghost use Rattle.ini_layers.specs.Merging.{IsMerged, taken_under};
 ghost use Rattle.ini_layers.specs.SourceChanges.{AreMade, RefusesOne};
-ghost use Rattle.ini_file.specs.ChangeLines.{conflict_line};
+ghost use Rattle.ini_file.specs.Ruled.{ruled_of};
 ghost use Rattle.ini_file.specs.ThreeWays.{EndsOnSides, GetsMarkWith, HasThreeWay, IsTextAfter};
 ghost use Rattle.ini_file.specs.ThreeWays.{side_below, three_way_status};
 
 use crate::bytes::{concat, text_of};
-use crate::change_lines::conflict_lines;
 use crate::edit::gets_byte_order_mark;
 use crate::left_conflicts::leave_conflicts;
 use crate::merge::load;
+use crate::ruled::Ruled;
 use ini::{Error, Ini};
+use ini_dialect::Lookup;
 use ini_edit::{RefusedEdit, Source};
-use ini_layers::{Side, conflicts, merge};
+use ini_layers::{FlatSides, Side, merge};
 use ini_text::WriteOption;
-use ini_words::Options;
 use std::alloc::{AllocError, Global};
 
 /// What is made of three files.
@@ -49,29 +49,30 @@ pub enum ThreeWayEnd {
     GetsMark,
 }
 
-/// The bytes of theirs with the changes of ours to the base, and a line for each conflict, of which the side
-/// says whose value stands; without a side both are left. A mark (EF BB BF) at the front of any file is no
-/// part of its text; that of theirs stays.
+/// The bytes of theirs with the changes of ours to the base, made under the rule, and a line for each
+/// conflict, of which the side says whose value stands; without a side both are left. A mark (EF BB BF) at
+/// the front of any file is no part of its text; that of theirs stays.
 pub fn merge_sides(
     alloc: Global,
-    options: Options,
+    ruled: Ruled<'_>,
     side: Option<Side>,
     base: &[u8],
     ours: &[u8],
     theirs: &[u8],
 ) -> ThreeWayEnd
-    ensures { HasThreeWay options side base.now ours.now theirs.now result }
+    ensures { HasThreeWay (ruled_of ruled.entry) side base.now ours.now theirs.now result }
 {
-    let base = match load(alloc, options.reading, base) {
+    let read = ruled.options.reading;
+    let base = match load(alloc, read, base) {
         Ok(base) => base,
         Err(refused) => return ThreeWayEnd::Base(refused),
     };
-    let ours = match load(alloc, options.reading, ours) {
+    let ours = match load(alloc, read, ours) {
         Ok(ours) => ours,
         Err(refused) => return ThreeWayEnd::Ours(refused),
     };
     match text_of(theirs) {
-        Ok((front, text)) => merge_into(alloc, options, side, (&base, &ours), front, text),
+        Ok((front, text)) => merge_into(alloc, ruled, side, (&base, &ours), front, text),
         Err(refused) => ThreeWayEnd::Theirs(refused),
     }
 }
@@ -79,30 +80,35 @@ pub fn merge_sides(
 // The same of two documents, and of a text after a mark.
 fn merge_into(
     alloc: Global,
-    options: Options,
+    ruled: Ruled<'_>,
     side: Option<Side>,
     sides: (&Ini, &Ini),
     byte_order_mark: &[u8],
     text: &str,
 ) -> ThreeWayEnd
-    ensures { EndsOnSides options side sides.entry.0.now sides.entry.1.now byte_order_mark.now
+    ensures { EndsOnSides (ruled_of ruled.entry) side sides.entry.0.now sides.entry.1.now byte_order_mark.now
         (chars text.now) result }
 {
     let (base, ours) = sides;
-    let theirs = match Source::read(alloc, text, options.reading) {
+    let theirs = match Source::read(alloc, text, ruled.options.reading) {
         Ok(theirs) => theirs,
         Err(refused) => return ThreeWayEnd::Theirs(refused),
     };
-    let write = options.write_option();
-    let mut new = match merge_below(alloc, &write, side, base, ours, &theirs) {
+    let write = match ruled.write_option(alloc) {
+        Ok(write) => write,
+        Err(refused) => return ThreeWayEnd::Theirs(refused),
+    };
+    let mut new = match merge_below(alloc, ruled.rule, &write, side, base, ours, &theirs) {
         Ok(new) => new,
         Err(refused) => return ThreeWayEnd::Change(refused),
     };
-    if let Err(refused) = leave_conflicts(alloc, &write, side, base, ours, &theirs, &mut new) {
-        return ThreeWayEnd::Conflict(refused);
-    }
-    let Ok(conflicts) = lines_of_conflicts(alloc, base, ours, &theirs) else {
-        return ThreeWayEnd::Theirs(Error::Memory(AllocError));
+    let flat = match FlatSides::new(alloc, ruled.rule, base, ours, &theirs) {
+        Ok(flat) => flat,
+        Err(refused) => return ThreeWayEnd::Theirs(refused),
+    };
+    let conflicts = match leave_conflicts(alloc, ruled.rule, &write, side, &flat, &mut new) {
+        Ok(conflicts) => conflicts,
+        Err(refused) => return ThreeWayEnd::Conflict(refused),
     };
     match text_after(alloc, byte_order_mark, &new) {
         Ok(Some(bytes)) => ThreeWayEnd::Done(ThreeWayDone { bytes, conflicts }),
@@ -114,36 +120,21 @@ fn merge_into(
 // Theirs with the changes of ours, in which conflicts may be left.
 fn merge_below<'a>(
     alloc: Global,
+    rule: Lookup,
     write: &WriteOption,
     side: Option<Side>,
     base: &Ini,
     ours: &Ini,
     theirs: &Source<'a>,
 ) -> Result<Source<'a>, RefusedEdit>
-    ensures merged { IfOk result (λ new. IsMerged (side_below side) base.now ours.now
+    ensures merged { IfOk result (λ new. IsMerged rule (side_below side) base.now ours.now
         (document_in theirs.now) (document_in new)) }
-    ensures made { IfOk result (AreMade write.now theirs.now
-        (taken_changes (side_below side) base.now ours.now (document_in theirs.now))) }
-    ensures refused { IfErr result (RefusesOne write.now theirs.now
-        (taken_changes (side_below side) base.now ours.now (document_in theirs.now))) }
+    ensures made { IfOk result (AreMade rule write.now theirs.now
+        (taken_under rule (side_below side) base.now ours.now (document_in theirs.now))) }
+    ensures refused { IfErr result (RefusesOne rule write.now theirs.now
+        (taken_under rule (side_below side) base.now ours.now (document_in theirs.now))) }
 {
-    merge(alloc, write, base, ours, theirs, side_below(side))
-}
-
-// A line for each conflict.
-fn lines_of_conflicts(
-    alloc: Global,
-    base: &Ini,
-    ours: &Ini,
-    theirs: &Source<'_>,
-) -> Result<Vec<u8>, AllocError>
-    ensures { IfOk result (λ lines. lines.items
-        ≡ flat_map conflict_line (conflicts_of base.now ours.now (document_in theirs.now))) }
-{
-    let Ok(conflicts) = conflicts(alloc, base, ours, theirs) else {
-        return Err(AllocError);
-    };
-    conflict_lines(alloc, conflicts.as_slice())
+    merge(alloc, rule, write, base, ours, theirs, side_below(side))
 }
 
 /// Whose value of a conflict a merge begins with: that of theirs, in which both are left, where no side is

@@ -1,11 +1,9 @@
 //! A three-way merge of files that are there: they are read, what is made of them is handed on, and conflicts
 //! and refusals are reported. This file knows the process's streams, and no word of the program.
 
-use crate::bytes::text_of;
 use crate::coding::{Coding, FileError};
-use crate::conflict_places::tell_places;
+use crate::conflict_places::{flat_sides, tell_places};
 use crate::files::{lock_place, read_file, read_input, write_output};
-use crate::merge::load;
 use crate::merge_files::setting_of_file;
 use crate::notes::note_reason;
 use crate::reasons::{Help, Reason};
@@ -15,10 +13,10 @@ use crate::side_words::ThreeWay;
 use crate::target::Target;
 use crate::three_way::{ThreeWayEnd, merge_sides, side_below, three_way_status};
 use crate::unwritable::reason_of;
-use ini::{Error, Ini};
+use ini::Error;
 use ini_dialect::Encoding;
-use ini_edit::{Edit, EditError, RefusedEdit, Source};
-use ini_layers::{Change, conflicts, taken};
+use ini_edit::{Edit, EditError, RefusedEdit};
+use ini_layers::{Change, FlatSides};
 use std::alloc::{AllocError, Global};
 use std::io::Write;
 
@@ -84,7 +82,7 @@ fn merge_read(rt: &HostRuntime, asked: &ThreeWay<'_>, sides: &Sides) -> u8 {
     let (base, ours) = (sides.base.as_slice(), sides.ours.as_slice());
     let theirs = sides.theirs.as_slice();
     let side = asked.choices.switches.side;
-    match merge_sides(rt.alloc(), asked.options, side, base, ours, theirs) {
+    match merge_sides(rt.alloc(), asked.ruled, side, base, ours, theirs) {
         ThreeWayEnd::Done(done) => {
             let target = Target::of_three_way(*asked);
             match write_output(
@@ -111,7 +109,13 @@ fn merge_read(rt: &HostRuntime, asked: &ThreeWay<'_>, sides: &Sides) -> u8 {
         ThreeWayEnd::Conflict(refused) => refuse_change(rt, asked, sides, true, refused),
         ThreeWayEnd::GetsMark => {
             let outcome = Outcome::Refused(EditError::Key);
-            let refused = refuse(rt, asked.options.reading, asked.theirs, theirs, &outcome);
+            let refused = refuse(
+                rt,
+                asked.ruled.options.reading,
+                asked.theirs,
+                theirs,
+                &outcome,
+            );
             note_reason(rt, Reason::ByteOrderMark, None);
             refused
         }
@@ -127,7 +131,7 @@ fn refuse_file(
     refusal: FileError,
 ) -> u8 {
     let outcome = Outcome::from(refusal);
-    refuse(rt, asked.options.reading, file, input, &outcome)
+    refuse(rt, asked.ruled.options.reading, file, input, &outcome)
 }
 
 // Tells that a change of ours can't be made in theirs, and why; it may be one of those in conflict.
@@ -138,7 +142,7 @@ fn refuse_change(
     is_conflict: bool,
     refused: RefusedEdit,
 ) -> u8 {
-    let (read, theirs) = (asked.options.reading, asked.theirs);
+    let (read, theirs) = (asked.ruled.options.reading, asked.theirs);
     let RefusedEdit { index, refusal } = refused;
     let found = change_at(rt.alloc(), asked, sides, is_conflict, index, &refusal);
     let outcome = Outcome::Refused(refusal);
@@ -161,19 +165,16 @@ fn change_at(
     index: usize,
     refusal: &EditError,
 ) -> Result<(String, Option<(Reason, Option<Help>)>), Error> {
-    let read = asked.options.reading;
-    let base = load(alloc, read, sides.base.as_slice())?;
-    let ours = load(alloc, read, sides.ours.as_slice())?;
-    let (_, text) = text_of(sides.theirs.as_slice())?;
-    let theirs = Source::read(alloc, text, read)?;
-    let change = refused_change(alloc, asked, &base, &ours, &theirs, is_conflict, index)?;
+    let (base, ours) = (sides.base.as_slice(), sides.ours.as_slice());
+    let flat = flat_sides(alloc, asked.ruled, base, ours, sides.theirs.as_slice())?;
+    let change = refused_change(alloc, asked, &flat, is_conflict, index)?;
     let (name, key) = (change.name, change.key);
     let edit = Edit::Set {
         name,
         key,
         value: change.new.unwrap_or(""),
     };
-    let reason = reason_of(Some(edit), asked.options, refusal);
+    let reason = reason_of(Some(edit), asked.ruled.options, refusal);
     Ok((setting_of_file(alloc, asked.theirs, name, key)?, reason))
 }
 
@@ -181,18 +182,16 @@ fn change_at(
 fn refused_change<'b>(
     alloc: Global,
     asked: &ThreeWay<'_>,
-    base: &'b Ini,
-    ours: &'b Ini,
-    theirs: &'b Source<'_>,
+    sides: &'b FlatSides,
     is_conflict: bool,
     index: usize,
 ) -> Result<Change<'b>, Error> {
     if is_conflict {
-        let conflicts = conflicts(alloc, base, ours, theirs)?;
+        let conflicts = sides.conflicts(alloc)?;
         let conflict = *conflicts.get(index).ok_or(AllocError)?;
         return Ok(conflict.change);
     }
     let side = side_below(asked.choices.switches.side);
-    let changes = taken(alloc, base, ours, theirs, side)?;
+    let changes = sides.taken(alloc, side)?;
     Ok(*changes.get(index).ok_or(AllocError)?)
 }

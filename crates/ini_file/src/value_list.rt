@@ -1,11 +1,10 @@
 //! All values of a key, set in a text in pieces. This file knows the calls of pieces, and of rules.
 ghost use Rattle.std.specs.Prelude.{◌≡◌, IfErr, IfOk, OnOk, chars, map};
 ghost use Rattle.ini.specs.Texts.{str_name, str_text};
-ghost use Rattle.ini_file.specs.Edits.{is_own};
+ghost use Rattle.ini_dialect.specs.Rules.{is_own};
 ghost use Rattle.ini_file.specs.ValueLists.{AreAddedUnder, AreReplacedUnder, HaveValues, RefusesAdded};
 ghost use Rattle.ini_file.specs.ValueLists.{RefusesReplaced, RefusesValues, texts_in};
 
-use crate::edit::is_own;
 use ini_dialect::Lookup;
 use ini_edit::{EditError, Source};
 use ini_text::WriteOption;
@@ -32,7 +31,7 @@ pub fn set_values(
     ensures refused { IfErr result (RefusesValues rule write.now (str_name name.entry) (chars key.now)
         (texts_in values.now) source.old) }
 {
-    if is_own(rule) {
+    if rule.is_own() {
         let texts = texts_of(alloc, values)?;
         return source.set_all(alloc, write, name, key, texts.as_slice());
     }

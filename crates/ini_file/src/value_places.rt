@@ -17,36 +17,60 @@ pub fn value_place(
     wanted: Wanted<'_>,
     index: usize,
 ) -> Option<usize> {
-    let places = value_places(alloc, text, read, wanted).ok()?;
+    let places = places(alloc, text, read, wanted).ok()?;
     let places = places.as_slice();
     let place = if wanted.all {
         places.get(index)
     } else {
-        match wanted.rule.values {
-            ValueRule::First => places.first(),
-            ValueRule::Last => places.last(),
-        }
+        counting(places, wanted)
     };
-    place.copied()
+    place.map(|place| place.value)
 }
 
-// The places of all values of the key that are looked at, in order.
-fn value_places(
+/// The number of bytes before the pair whose value counts. `None` where there is none; or memory was refused.
+pub fn pair_place(
     alloc: Global,
     text: &str,
     read: ParseOption,
     wanted: Wanted<'_>,
-) -> Result<Vec<usize>, Error> {
+) -> Option<usize> {
+    let places = places(alloc, text, read, wanted).ok()?;
+    counting(places.as_slice(), wanted).map(|place| place.pair)
+}
+
+// How many bytes stand before a pair, and before its value.
+#[derive(Clone, Copy)]
+struct Place {
+    pair: usize,
+    value: usize,
+}
+
+// The place of the value that counts.
+fn counting<'p>(places: &'p [Place], wanted: Wanted<'_>) -> Option<&'p Place> {
+    match wanted.rule.values {
+        ValueRule::First => places.first(),
+        ValueRule::Last => places.last(),
+    }
+}
+
+// The places of all values of the key that are looked at, in order.
+fn places(
+    alloc: Global,
+    text: &str,
+    read: ParseOption,
+    wanted: Wanted<'_>,
+) -> Result<Vec<Place>, Error> {
     let mut parser = Parser::new(alloc, text, read);
     let mut places = Vec::new(alloc);
     let mut looks = Looks::of(wanted);
     for _ in 0..=text.len() {
-        let place = text.len().saturating_sub(parser.rest().len());
+        let pair = text.len().saturating_sub(parser.rest().len());
         let Some(element) = parser.next_element()? else {
             return Ok(places);
         };
         if let Some(before) = looks.before_value(&element, wanted) {
-            places.push(place.saturating_add(before))?;
+            let value = pair.saturating_add(before);
+            places.push(Place { pair, value })?;
         }
     }
     Ok(places)

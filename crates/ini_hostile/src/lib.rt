@@ -30,6 +30,8 @@ mod no_memory;
 #[cfg(test)]
 mod reading;
 #[cfg(test)]
+mod ruled;
+#[cfg(test)]
 mod scarce;
 #[cfg(test)]
 mod show;

@@ -3,6 +3,7 @@
 use crate::scarce::{Attempt, refusals};
 use crate::show::loaded;
 use ini::{EscapePolicy, Ini, ParseOption, WriteOption};
+use ini_dialect::Lookup;
 use ini_edit::{Edit, EditError, LaterPairs, Source};
 use ini_layers::{Side, apply, diff, merge};
 use ini_text::Error;
@@ -131,9 +132,17 @@ fn make_merge<'a>(
     let write = WriteOption::default();
     let answer = if edit == "apply" {
         let changes = diff(alloc, base, ours)?;
-        apply(alloc, &write, changes.as_slice(), theirs)
+        apply(alloc, Lookup::default(), &write, changes.as_slice(), theirs)
     } else {
-        merge(alloc, &write, base, ours, theirs, Side::Ours)
+        merge(
+            alloc,
+            Lookup::default(),
+            &write,
+            base,
+            ours,
+            theirs,
+            Side::Ours,
+        )
     };
     match answer {
         Ok(new) => Ok(new),

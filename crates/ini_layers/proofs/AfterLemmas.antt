@@ -3,21 +3,26 @@ use Rattle.std.proofs.Common.{◌≡◌, ◌∙◌, ◌⊎◌, ap, sym, refl, in
 use Rattle.std.proofs.Common.{not, ◌&&◌, ◌||◌, List, [], ◌∷◌, ◌++◌, map, filter, Option, None, Some, is_some}
 use Rattle.std.proofs.lemmas.Bool.{cases_Bool, cond_both}
 use Rattle.std.proofs.lemmas.List.Elements.{filter-append}
-use Rattle.std.specs.List.{list_any}
+use Rattle.std.specs.List.{list_all, list_any}
 use Rattle.ini.specs.Documents.{Document, value_in}
 use Rattle.ini.specs.Texts.{Text, is_name}
 use Rattle.ini.proofs.KeepingLemmas.{names_equal}
-use Rattle.ini_layers.specs.Applying.{HasChanged, LeadsTo, value_after}
+use Rattle.ini_dialect.specs.Flattened.{flattened, told, told_name}
+use Rattle.ini_dialect.specs.Lookups.{value_under}
+use Rattle.ini_dialect.specs.declared.rule.Lookup.{Lookup}
+use Rattle.ini_dialect.proofs.FlattenedLemmas.{flat-answers}
+use Rattle.ini_layers.specs.Applying.{HasChanged, LeadsTo, fits_change, value_after}
 use Rattle.ini_layers.specs.Differences.{SettingChange, change_of, difference, differs, is_lost, is_of}
 use Rattle.ini_layers.specs.Settings.{Setting, is_setting, settings}
 use Rattle.ini_layers.proofs.SettingLemmas.{has-settings, settings_equal}
+use Rattle.ini_layers.proofs.ToldLemmas.{after-told, difference-told, is_told}
+
+pub after-append : (of : SettingChange → Bool) (xs ys : List SettingChange) (value : Option Text)
+    → value_after of (xs ++ ys) value ≡ value_after of ys (value_after of xs value)
+after-append of [] ys value = refl
+after-append of (x ∷ xs) ys value = after-append of xs ys (cond (of x) x.new value)
 
 module _ (name : Option Text) (key : Text) where
-  pub after-append : (xs ys : List SettingChange) (value : Option Text)
-      → value_after name key (xs ++ ys) value ≡ value_after name key ys (value_after name key xs value)
-  after-append [] ys value = refl
-  after-append (x ∷ xs) ys value = after-append xs ys (cond (is_of name key x) x.new value)
-
   module _ (from to : Document) where
     abbrev here : SettingChange
     here = change_of from to (name, key)
@@ -33,7 +38,7 @@ module _ (name : Option Text) (key : Text) where
     module _ (test : SettingChange → Bool) where
       -- the new value stands where the setting is among those gone through, and its change passes
       pub after-listed : (ss : List Setting) (value : Option Text)
-          → value_after name key (filter test (map (change_of from to) ss)) value
+          → value_after (is_of name key) (filter test (map (change_of from to) ss)) value
           ≡ cond (list_any (is_setting (name, key)) ss && test here) (value_in name key to) value
       after-listed [] value = refl
       after-listed (s ∷ ss) value =
@@ -47,16 +52,16 @@ module _ (name : Option Text) (key : Text) where
                 let all : cond ((is_setting (name, key) s || rest) && test here) (value_in name key to) value
                 ≡ cond (rest && test here) (value_in name key to) value = rw apart refl in
                 cond_both (test (change_of from to s)) _ _
-                (λ l. value_after name key l value
+                (λ l. value_after (is_of name key) l value
                 ≡ cond ((is_setting (name, key) s || rest) && test here) (value_in name key to) value)
-                (λ _. ap (value_after name key others) same ∙ after-listed ss value ∙ sym all)
+                (λ _. ap (value_after (is_of name key) others) same ∙ after-listed ss value ∙ sym all)
                 (λ _. after-listed ss value ∙ sym all)
           ]
         where
           at_same : is_setting (name, key) s ≡ true → (test here ≡ true) ⊎ (test here ≡ false)
-              → ((v : Option Text) → value_after name key (filter test (map (change_of from to) ss)) v
+              → ((v : Option Text) → value_after (is_of name key) (filter test (map (change_of from to) ss)) v
               ≡ cond (list_any (is_setting (name, key)) ss && test here) (value_in name key to) v)
-              → value_after name key (filter test (map (change_of from to) (s ∷ ss))) value
+              → value_after (is_of name key) (filter test (map (change_of from to) (s ∷ ss))) value
               ≡ cond (list_any (is_setting (name, key)) (s ∷ ss) && test here) (value_in name key to) value
           at_same same (inl passes) later =
               let e : (name, key) ≡ s = settings_equal (name, key) s same in
@@ -72,7 +77,7 @@ module _ (name : Option Text) (key : Text) where
               let rest = list_any (is_setting (name, key)) ss in
               let all : cond ((is_setting (name, key) s || rest) && test here) (value_in name key to) value
               ≡ value_in name key to = rw (same, passes) refl in
-              ap (λ l. value_after name key l value) first ∙ ap (value_after name key others) taken
+              ap (λ l. value_after (is_of name key) l value) first ∙ ap (value_after (is_of name key) others) taken
               ∙ later (value_in s.0 s.1 to)
               ∙ ap (cond (rest && test here) (value_in name key to)) new ∙ new_or_new (rest && test here)
               ∙ sym all
@@ -108,7 +113,7 @@ module _ {X : Type 0} (p q : X → Bool) where
 module _ (from to : Document) (name : Option Text) (key : Text) (passes : SettingChange → Bool) where
   -- the changes of the difference that pass give their settings the second document's values
   pub after-difference : (value : Option Text)
-      → value_after name key (filter passes (difference from to)) value
+      → value_after (is_of name key) (filter passes (difference from to)) value
       ≡ cond (not (is_name (value_in name key from) (value_in name key to))
       && passes (change_of from to (name, key))) (value_in name key to) value
   after-difference value =
@@ -120,13 +125,13 @@ module _ (from to : Document) (name : Option Text) (key : Text) (passes : Settin
       filter-append passes (filter differs changed) (filter is_lost lost)
       ∙ ap (λ l. l ++ filter passes (filter is_lost lost)) (filter-both differs passes changed)
       ∙ ap (λ l. filter (λ x. differs x && passes x) changed ++ l) (filter-both is_lost passes lost) in
-      ap (λ l. value_after name key l value) split
-      ∙ after-append name key (filter (λ x. differs x && passes x) changed)
+      ap (λ l. value_after (is_of name key) l value) split
+      ∙ after-append (is_of name key) (filter (λ x. differs x && passes x) changed)
       (filter (λ x. is_lost x && passes x) lost) value
       ∙ after-listed name key from to (λ x. is_lost x && passes x) (settings from)
-      (value_after name key (filter (λ x. differs x && passes x) changed) value)
+      (value_after (is_of name key) (filter (λ x. differs x && passes x) changed) value)
       ∙ ap (λ b. cond (b && (is_lost c && passes c)) (value_in name key to)
-      (value_after name key (filter (λ x. differs x && passes x) changed) value))
+      (value_after (is_of name key) (filter (λ x. differs x && passes x) changed) value))
       (has-settings name key from)
       ∙ ap (cond (is_some (value_in name key from) && (is_lost c && passes c)) (value_in name key to))
       (after-listed name key from to (λ x. differs x && passes x) (settings to) value
@@ -146,14 +151,21 @@ one_or_other old new =
     ]
 
 -- what has the changes of a difference looks up as its second document where it did as its first
-pub difference-leads : (changes : List SettingChange) (old new : Document) → HasChanged changes old new
-    → LeadsTo changes old new
-difference-leads changes old new has from to is agree name key =
+pub difference-leads : (rule : Lookup) (changes : List SettingChange) (old new : Document)
+    → HasChanged rule changes old new → LeadsTo rule changes old new
+difference-leads rule changes old new has from to is agree name key =
+    let n = told_name rule.case name in
+    let k = told rule.case key in
+    let ff = flattened rule from in
+    let ft = flattened rule to in
+    let value = value_under rule name key old in
+    let all = filter-all (difference ff ft) in
+    let here : value ≡ value_in n k ff = agree name key ∙ sym (flat-answers rule from name key) in
     has name key
-    ∙ ap (λ cs. value_after name key cs (value_in name key old))
-    (is ∙ sym (filter-all (difference from to)))
-    ∙ after-difference from to name key (λ x. true) (value_in name key old)
-    ∙ ap
-    (cond (not (is_name (value_in name key from) (value_in name key to)) && true) (value_in name key to))
-    (agree name key)
-    ∙ one_or_other (value_in name key from) (value_in name key to)
+    ∙ ap (λ cs. value_after (fits_change rule name key) cs value) (is ∙ sym all)
+    ∙ after-told rule name key (filter (λ x. true) (difference ff ft)) value
+    (ap (list_all (is_told rule)) all ∙ difference-told rule from to)
+    ∙ after-difference ff ft n k (λ x. true) value
+    ∙ ap (cond (not (is_name (value_in n k ff) (value_in n k ft)) && true) (value_in n k ft)) here
+    ∙ one_or_other (value_in n k ff) (value_in n k ft)
+    ∙ flat-answers rule to name key

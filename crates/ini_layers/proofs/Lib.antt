@@ -6,3 +6,4 @@ pub mod ListingLemmas
 pub mod AfterLemmas
 pub mod MadeLemmas
 pub mod MergeLemmas
+pub mod ToldLemmas

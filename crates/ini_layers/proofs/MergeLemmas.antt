@@ -13,13 +13,17 @@ use Rattle.ini.specs.Documents.{Document, value_in}
 use Rattle.ini.specs.Texts.{Text, is_name}
 use Rattle.ini.proofs.KeepingLemmas.{name_refl, names_equal}
 use Rattle.ini_edit.specs.Sources.{Pieces}
+use Rattle.ini_dialect.specs.Flattened.{flattened, told, told_name}
+use Rattle.ini_dialect.specs.Lookups.{value_under}
+use Rattle.ini_dialect.specs.declared.rule.Lookup.{Lookup}
+use Rattle.ini_dialect.proofs.FlattenedLemmas.{flat-answers}
 use Rattle.ini_layers.specs.Applying.{HasChanged}
 use Rattle.ini_layers.specs.Differences.{SettingChange, change_of, difference, differs, is_lost, is_of}
 use Rattle.ini_layers.specs.Differences.{setting_change}
 use Rattle.ini_layers.specs.Merging.{ChangePlaces, HasConflictsOf, HaveNoConflict, IsMerged, SettingConflict}
 use Rattle.ini_layers.specs.Merging.{chosen, conflicts_of, conflicts_with, is_conflict, is_taken}
-use Rattle.ini_layers.specs.Merging.{merged_value, setting_conflict, taken_changes, with_theirs}
-use Rattle.ini_layers.specs.Settings.{AnswerAlike, Setting, settings}
+use Rattle.ini_layers.specs.Merging.{merged_value, setting_conflict, taken_changes, taken_under, with_theirs}
+use Rattle.ini_layers.specs.Settings.{AlikeUnder, AnswerAlike, Setting, settings}
 use Rattle.ini_layers.specs.SourceChanges.{AreMade}
 use Rattle.ini_layers.specs.declared.change.Change.{Change}
 use Rattle.ini_layers.specs.declared.merging.Conflict.{Conflict}
@@ -28,6 +32,7 @@ use Rattle.ini_layers.specs.declared.merging.Side.TheVariants.{Ours, Theirs}
 use Rattle.ini_layers.proofs.AfterLemmas.{after-difference, filter-both}
 use Rattle.ini_layers.proofs.DifferenceLemmas.{difference-has, find-listed, none-if-agree}
 use Rattle.ini_layers.proofs.SettingLemmas.{has-settings, same_setting}
+use Rattle.ini_layers.proofs.ToldLemmas.{after-told, difference-told, passing-told}
 
 -- the taken change's value, or theirs, is the merged one
 taken-value : (side : Side) (base ours theirs : Option Text)
@@ -47,12 +52,28 @@ taken-value side base ours theirs =
     at Ours false false false same = refl
     at Theirs false false false same = refl
 
-pub taken-merged : (side : Side) (base ours theirs new : Document)
-    → HasChanged (taken_changes side base ours theirs) theirs new → IsMerged side base ours theirs new
-taken-merged side base ours theirs new has name key =
+pub taken-merged : (rule : Lookup) (side : Side) (base ours theirs new : Document)
+    → HasChanged rule (taken_under rule side base ours theirs) theirs new
+    → IsMerged rule side base ours theirs new
+taken-merged rule side base ours theirs new has name key =
+    let n = told_name rule.case name in
+    let k = told rule.case key in
+    let fb = flattened rule base in
+    let fo = flattened rule ours in
+    let ft = flattened rule theirs in
+    let taken = is_taken side ft in
+    let here = flat-answers rule theirs name key in
     has name key
-    ∙ after-difference base ours name key (is_taken side theirs) (value_in name key theirs)
-    ∙ taken-value side (value_in name key base) (value_in name key ours) (value_in name key theirs)
+    ∙ after-told rule name key (filter taken (difference fb fo)) (value_under rule name key theirs)
+    (passing-told rule taken (difference fb fo) (difference-told rule base ours))
+    ∙ after-difference fb fo n k taken (value_under rule name key theirs)
+    ∙ ap (cond (not (is_name (value_in n k fb) (value_in n k fo))
+    && taken (change_of fb fo (n, k))) (value_in n k fo)) (sym here)
+    ∙ taken-value side (value_in n k fb) (value_in n k fo) (value_in n k ft)
+    ∙ ap (λ v. merged_value side v (value_in n k fo) (value_in n k ft)) (flat-answers rule base name key)
+    ∙ ap (λ v. merged_value side (value_under rule name key base) v (value_in n k ft))
+    (flat-answers rule ours name key)
+    ∙ ap (merged_value side (value_under rule name key base) (value_under rule name key ours)) here
 
 -- where theirs is the base the merged value is ours
 from_base : (side : Side) (base ours theirs : Option Text) → base ≡ theirs
@@ -67,11 +88,11 @@ from_base side base ours theirs is =
     at false same true here = refl
     at false same false here = absurd cc
 
-pub merged-from_base : (side : Side) (base ours theirs new : Document) → IsMerged side base ours theirs new
-    → AnswerAlike base theirs → AnswerAlike ours new
-merged-from_base side base ours theirs new merged agree name key =
-    from_base side (value_in name key base) (value_in name key ours) (value_in name key theirs)
-    (agree name key)
+pub merged-from_base : (rule : Lookup) (side : Side) (base ours theirs new : Document)
+    → IsMerged rule side base ours theirs new → AlikeUnder rule base theirs → AlikeUnder rule ours new
+merged-from_base rule side base ours theirs new merged agree name key =
+    from_base side (value_under rule name key base) (value_under rule name key ours)
+    (value_under rule name key theirs) (agree name key)
     ∙ sym (merged name key)
 
 -- without a conflict it is the same for both ways round
@@ -93,18 +114,29 @@ either_way s t base ours theirs none =
     at false false true false bo bt ot vt n = absurd (let no : false ≡ true = vt (ot refl) in cc)
     at false false false v bo bt ot vt n = absurd (let no : true ≡ false = n in cc)
 
-pub change-places : (base ours theirs : Document) → ChangePlaces base ours theirs
-change-places base ours theirs s t new other none merged also name key =
+pub change-places : (rule : Lookup) (base ours theirs : Document) → ChangePlaces rule base ours theirs
+change-places rule base ours theirs s t new other none merged also name key =
     merged name key
-    ∙ either_way s t (value_in name key base) (value_in name key ours) (value_in name key theirs)
-    (none name key)
+    ∙ either_way s t (value_under rule name key base) (value_under rule name key ours)
+    (value_under rule name key theirs) (no_conflict rule base ours theirs none name key)
     ∙ sym (also name key)
+  where
+    no_conflict : (rule : Lookup) (b o t : Document)
+        → HaveNoConflict (flattened rule b) (flattened rule o) (flattened rule t)
+        → (name : Option Text) (key : Text) → is_conflict (value_under rule name key b)
+        (value_under rule name key o) (value_under rule name key t) ≡ false
+    no_conflict rule b o t none name key =
+        rw (
+          sym (flat-answers rule b name key),
+          sym (flat-answers rule o name key),
+          sym (flat-answers rule t name key),
+        ) (none (told_name rule.case name) (told rule.case key))
 
 -- where no change is made all stays
-pub made-nothing : (w : WriteOption) {old new : Pieces} {changes : List SettingChange}
-    → AreMade w old changes new → changes ≡ [] → new ≡ old
-made-nothing w AreMade.none is = refl
-made-nothing w (AreMade.then {changes} c made next) is = absurd (ends changes is)
+pub made-nothing : (rule : Lookup) (w : WriteOption) {old new : Pieces} {changes : List SettingChange}
+    → AreMade rule w old changes new → changes ≡ [] → new ≡ old
+made-nothing rule w AreMade.none is = refl
+made-nothing rule w (AreMade.then {changes} c made next) is = absurd (ends changes is)
   where
     ends : (cs : List SettingChange) → cs ++ c ∷ [] ≡ [] → ⊥
     ends [] e = let no : c ∷ [] ≡ [] = e in cc

@@ -4,8 +4,11 @@ use Rattle.std.specs.Prelude.{Option, None, Some}
 use Rattle.std.specs.List.{find}
 use Rattle.ini.specs.Documents.{Document, value_in}
 use Rattle.ini.specs.Texts.{Text, is_name, str_name}
+use Rattle.ini_dialect.specs.Flattened.{flattened}
+use Rattle.ini_dialect.specs.Lookups.{value_under}
+use Rattle.ini_dialect.specs.declared.rule.Lookup.{Lookup}
 use Rattle.ini_layers.specs.Differences.{SettingChange, change_of, difference, is_of, setting_change}
-use Rattle.ini_layers.specs.Settings.{AnswerAlike}
+use Rattle.ini_layers.specs.Settings.{AlikeUnder}
 use Rattle.ini_layers.specs.declared.merging.Conflict.{Conflict}
 use Rattle.ini_layers.specs.declared.merging.Side.{Side}
 use Rattle.ini_layers.specs.declared.merging.Side.TheVariants.{Ours, Theirs}
@@ -27,10 +30,11 @@ abbrev pub is_conflict : (base ours theirs : Option Text) → Bool
 is_conflict base ours theirs =
     not (is_name base ours) && (not (is_name base theirs) && not (is_name ours theirs))
 
--- every look-up answers the merged value
-abbrev pub IsMerged : Side → (base ours theirs new : Document) → Type 0
-IsMerged side base ours theirs new = (name : Option Text) (key : Text) → value_in name key new
-    ≡ merged_value side (value_in name key base) (value_in name key ours) (value_in name key theirs)
+-- every look-up under the rule answers the merged value
+abbrev pub IsMerged : Lookup → Side → (base ours theirs new : Document) → Type 0
+IsMerged rule side base ours theirs new = (name : Option Text) (key : Text) → value_under rule name key new
+    ≡ merged_value side (value_under rule name key base) (value_under rule name key ours)
+    (value_under rule name key theirs)
 
 -- no setting is in conflict
 abbrev pub HaveNoConflict : (base ours theirs : Document) → Type 0
@@ -38,11 +42,11 @@ HaveNoConflict base ours theirs = (name : Option Text) (key : Text)
     → is_conflict (value_in name key base) (value_in name key ours) (value_in name key theirs) ≡ false
 
 -- the two documents change places where there is no conflict
-abbrev pub ChangePlaces : (base ours theirs : Document) → Type 0
-ChangePlaces base ours theirs = (side other_side : Side) (new other : Document)
-    → HaveNoConflict base ours theirs → IsMerged side base ours theirs new
-    → IsMerged other_side base theirs ours other
-    → AnswerAlike new other
+abbrev pub ChangePlaces : Lookup → (base ours theirs : Document) → Type 0
+ChangePlaces rule base ours theirs = (side other_side : Side) (new other : Document)
+    → HaveNoConflict (flattened rule base) (flattened rule ours) (flattened rule theirs)
+    → IsMerged rule side base ours theirs new → IsMerged rule other_side base theirs ours other
+    → AlikeUnder rule new other
 
 -- a change of ours that is made in theirs: its setting has another value there, and theirs didn't touch it,
 -- or ours is chosen
@@ -54,6 +58,11 @@ is_taken side theirs c = is_taken_at side c (value_in c.name c.key theirs)
 
 abbrev pub taken_changes : Side → (base ours theirs : Document) → List SettingChange
 taken_changes side base ours theirs = filter (is_taken side theirs) (difference base ours)
+
+-- the same of documents under a rule
+abbrev pub taken_under : Lookup → Side → (base ours theirs : Document) → List SettingChange
+taken_under rule side base ours theirs =
+    taken_changes side (flattened rule base) (flattened rule ours) (flattened rule theirs)
 
 -- a change of ours, and what theirs made of its setting
 pub record SettingConflict : Type 0 where
@@ -80,3 +89,8 @@ HasConflictsOf base ours theirs conflicts = (name : Option Text) (key : Text)
     → find (λ c. is_of name key c.change) conflicts
     ≡ (if is_conflict (value_in name key base) (value_in name key ours) (value_in name key theirs)
     then Some (with_theirs theirs (change_of base ours (name, key))) else None)
+
+-- those of documents under a rule
+abbrev pub conflicts_under : Lookup → (base ours theirs : Document) → List SettingConflict
+conflicts_under rule base ours theirs =
+    conflicts_of (flattened rule base) (flattened rule ours) (flattened rule theirs)

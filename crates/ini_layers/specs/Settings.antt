@@ -3,6 +3,8 @@ use Rattle.std.specs.Prelude.{◌≡◌, Bool, ◌&&◌, List, [], map, flat_map
 use Rattle.ini.specs.Documents.{Document, first_section, names, value_in}
 use Rattle.ini.specs.Properties.{distinct}
 use Rattle.ini.specs.Texts.{Text, is_name, is_text}
+use Rattle.ini_dialect.specs.Lookups.{value_under}
+use Rattle.ini_dialect.specs.declared.rule.Lookup.{Lookup}
 
 -- a setting: the name of its section, and its key
 abbrev pub Setting : Type 0
@@ -18,6 +20,11 @@ value_of s d = value_in s.0 s.1 d
 -- every look-up answers the same
 abbrev pub AnswerAlike : Document → Document → Type 0
 AnswerAlike d e = (name : Option Text) (key : Text) → value_in name key d ≡ value_in name key e
+
+-- every look-up under the rule answers the same
+abbrev pub AlikeUnder : Lookup → Document → Document → Type 0
+AlikeUnder rule d e = (name : Option Text) (key : Text)
+    → value_under rule name key d ≡ value_under rule name key e
 
 -- the settings of the first section of the name, each once, in order
 abbrev pub settings_in : Document → Option Text → List Setting

@@ -15,7 +15,8 @@ use std::alloc::{AllocError, Global};
 
 /// The settings whose values differ, each once: those of `to` in their order there, and then those that `to`
 /// lacks, in their order in `from`. A setting's value is that of the first pair of its key in the first
-/// section of its name. The changes are lent from the two documents.
+/// section of its name; for another rule the documents are flattened under it before (`Lookup::flattened`).
+/// The changes are lent from the two documents.
 ///
 /// # Errors
 ///

@@ -3,8 +3,8 @@
 //! setting by setting, and three-way merges.
 //!
 //! `Layers` is seen as the list of its documents. What is said of differences is of look-ups alone: comments,
-//! blanks, order and spelling are none. Documents know nothing of the crate, and texts in pieces are asked by
-//! their public calls.
+//! blanks, order and spelling are none. Under a dialect's rule documents are flattened before, and changes are
+//! made by the rule's edits.
 #![tactic(auto)]
 
 mod applying;
@@ -16,9 +16,9 @@ mod layering;
 mod layers;
 mod merging;
 
-pub use applying::apply;
+pub use applying::{apply, apply_in_place};
 pub use change::Change;
 pub use difference::diff;
 pub use iter::DocumentIter;
 pub use layers::{Layers, NoLayer};
-pub use merging::{Conflict, Side, conflicts, merge, taken};
+pub use merging::{Conflict, FlatSides, Side, merge};

@@ -12,8 +12,9 @@ use crate::options::{
     invalid, policy_of_name, reading_of_flags, separator_of_line_end, separator_of_text,
 };
 use ini::{Error, Ini};
+use ini_dialect::Lookup;
 use ini_edit::{EditError, Source};
-use ini_layers::{Conflict, Side, conflicts, merge};
+use ini_layers::{Conflict, FlatSides, Side, merge};
 use ini_text::{ParseOption, WriteOption};
 use std::alloc::Global;
 use std::io;
@@ -98,7 +99,8 @@ fn push_merged(
     question: &Question,
     (base, ours, theirs): (&Ini, &Ini, &Source<'_>),
 ) -> Result<(), Error> {
-    match merge(alloc, &question.write, base, ours, theirs, question.side) {
+    let (write, side) = (&question.write, question.side);
+    match merge(alloc, Lookup::default(), write, base, ours, theirs, side) {
         Ok(new) => {
             line.push_str("new:")?;
             push_hex(line, new.to_text(alloc)?.as_bytes())?;
@@ -117,7 +119,8 @@ fn answered(alloc: Global, question: &Question) -> Result<String, Error> {
     let theirs = Source::read(alloc, question.theirs.as_str(), question.read)?;
     let mut line = String::new(alloc);
     push_merged(alloc, &mut line, question, (&base, &ours, &theirs))?;
-    for conflict in &conflicts(alloc, &base, &ours, &theirs)? {
+    let sides = FlatSides::new(alloc, Lookup::default(), &base, &ours, &theirs)?;
+    for conflict in &sides.conflicts(alloc)? {
         push_conflict(&mut line, conflict)?;
     }
     Ok(line)

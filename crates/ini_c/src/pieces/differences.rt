@@ -2,6 +2,7 @@
 ghost use Rattle.std.specs.Prelude.{◌≡◌, ◌∷◌, [], ◌↔◌, IfOk, IsSome, IsSomeAnd, IsTrue, None, OnOk, Some};
 ghost use Rattle.std.specs.Prelude.{false, map};
 ghost use Rattle.std.specs.Option.{option_map};
+ghost use Rattle.ini_dialect.specs.Rules.{default_lookup};
 ghost use Rattle.ini_edit.specs.Sources.{document_in};
 ghost use Rattle.ini_edit.specs.declared.error.EditError.TheVariants.{Key, Name, NoPlace, Value};
 ghost use Rattle.ini_layers.specs.Applying.{HasChanged, LeadsTo};
@@ -25,6 +26,7 @@ use crate::pieces::documents::to_document;
 use crate::refusal::status_of;
 use crate::{NO_DOCUMENT, NO_MEMORY, OK};
 use ini::Error;
+use ini_dialect::Lookup;
 use ini_edit::Source;
 use ini_layers::{Change, apply, diff};
 use std::alloc::{AllocError, Global};
@@ -127,13 +129,16 @@ pub extern "C" fn bigrosk_ini_text_apply(
     ensures given { ¬ (IsTrue (is_among result (not_utf8 ∷ no_memory ∷ no_document ∷ [])))
         → AreChangesGiven bytes.now counts.now }
     ensures made { result ≡ ok → Changes
-        (λ old new. Asks write.now (λ w. AreMade w old (changes_given bytes.now counts.now) new))
+        (λ old new. Asks write.now
+        (λ w. AreMade default_lookup w old (changes_given bytes.now counts.now) new))
         (pieces_of text.old) (pieces_of text.new) }
     ensures values { result ≡ ok → Changes
-        (λ old new. HasChanged (changes_given bytes.now counts.now) (document_in old) (document_in new))
+        (λ old new. HasChanged default_lookup (changes_given bytes.now counts.now)
+        (document_in old) (document_in new))
         (pieces_of text.old) (pieces_of text.new) }
     ensures leads { result ≡ ok → Changes
-        (λ old new. LeadsTo (changes_given bytes.now counts.now) (document_in old) (document_in new))
+        (λ old new. LeadsTo default_lookup (changes_given bytes.now counts.now)
+        (document_in old) (document_in new))
         (pieces_of text.old) (pieces_of text.new) }
     ensures unplain_value { result ≡ unplain_value → IsSomeAnd (pieces_of text.old)
         (λ p. RefusesAt write.now p (changes_given bytes.now counts.now) refused.new Value) }
@@ -158,7 +163,13 @@ pub extern "C" fn bigrosk_ini_text_apply(
         Err(status) => return status,
     };
     let option = write.to_option();
-    match apply(alloc, &option, changes.as_slice(), source) {
+    match apply(
+        alloc,
+        Lookup::default(),
+        &option,
+        changes.as_slice(),
+        source,
+    ) {
         Ok(new) => {
             source.replace_with(new);
             OK

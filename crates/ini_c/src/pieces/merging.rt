@@ -1,13 +1,14 @@
 //! Two texts in pieces that changed one base: what both made of it, and where they are in conflict.
 ghost use Rattle.std.specs.Prelude.{◌≡◌, ◌∷◌, [], ◌↔◌, IfOk, IsSomeAnd, IsTrue, None, OnOk, Some, false, map};
 ghost use Rattle.std.specs.Option.{option_map};
+ghost use Rattle.ini_dialect.specs.Rules.{default_lookup};
 ghost use Rattle.ini_edit.specs.Sources.{document_in};
 ghost use Rattle.ini_edit.specs.declared.error.EditError.TheVariants.{Key, Name, NoPlace, Value};
-ghost use Rattle.ini_layers.specs.Merging.{IsMerged, conflicts_of, setting_conflict, taken_changes};
-ghost use Rattle.ini_layers.specs.Settings.{AnswerAlike};
+ghost use Rattle.ini_layers.specs.Merging.{IsMerged, setting_conflict, taken_under};
+ghost use Rattle.ini_layers.specs.Settings.{AlikeUnder};
 ghost use Rattle.ini_layers.specs.SourceChanges.{AreMade};
-ghost use Rattle.ini_c.specs.Changes.{Merges, RefusesToMerge, conflicts_in, conflicts_listed, side_if};
-ghost use Rattle.ini_c.specs.Changes.{with_conflict};
+ghost use Rattle.ini_c.specs.Changes.{Merges, RefusesToMerge, conflicts_between, conflicts_in};
+ghost use Rattle.ini_c.specs.Changes.{conflicts_listed, side_if, with_conflict};
 ghost use Rattle.ini_c.specs.Held.{document_of, pieces_of};
 ghost use Rattle.ini_c.specs.Inside.Gathered.{contents};
 ghost use Rattle.ini_c.specs.Listings.{AreSizesOf, copied_listing, fits};
@@ -24,8 +25,9 @@ use crate::pieces::documents::to_document;
 use crate::refusal::status_of;
 use crate::{NO_DOCUMENT, NO_MEMORY, OK};
 use ini::Error;
+use ini_dialect::Lookup;
 use ini_edit::Source;
-use ini_layers::{Conflict, Side, conflicts, merge};
+use ini_layers::{Conflict, FlatSides, Side, merge};
 use std::alloc::{AllocError, Global};
 
 // Puts a conflict last.
@@ -57,11 +59,12 @@ fn list_all(
     theirs: &Source<'static>,
 ) -> Result<Listing, Error>
     ensures { IfOk result (λ listing. contents listing ≡ conflicts_listed
-        (conflicts_of (document_in base.now) (document_in ours.now) (document_in theirs.now))) }
+        (conflicts_between (document_in base.now) (document_in ours.now) (document_in theirs.now))) }
 {
     let base = to_document(alloc, base)?;
     let ours = to_document(alloc, ours)?;
-    let found = conflicts(alloc, &base, &ours, theirs)?;
+    let sides = FlatSides::new(alloc, Lookup::default(), &base, &ours, theirs)?;
+    let found = sides.conflicts(alloc)?;
     Ok(list_conflicts(alloc, found.as_slice())?)
 }
 
@@ -136,18 +139,21 @@ pub extern "C" fn bigrosk_ini_text_merge3(
     ensures no_document { result ≡ no_document
         ↔ (conflicts_in (document_of base.old) (document_of ours.old) (document_of theirs.old) ≡ None) }
     ensures merged { result ≡ ok → Merges (λ base ours old new.
-        IsMerged (side_if take_ours) base ours (document_in old) (document_in new))
+        IsMerged default_lookup (side_if take_ours) base ours (document_in old) (document_in new))
         (document_of base.old) (document_of ours.old) (pieces_of theirs.old) (pieces_of theirs.new) }
     ensures made { result ≡ ok → Merges (λ base ours old new. Asks write.now
-        (λ w. AreMade w old (taken_changes (side_if take_ours) base ours (document_in old)) new))
+        (λ w. AreMade default_lookup w old
+        (taken_under default_lookup (side_if take_ours) base ours (document_in old)) new))
         (document_of base.old) (document_of ours.old) (pieces_of theirs.old) (pieces_of theirs.new) }
-    ensures ours_is_base { result ≡ ok → Merges (λ base ours old new. AnswerAlike base ours → new ≡ old)
+    ensures ours_is_base { result ≡ ok → Merges
+        (λ base ours old new. AlikeUnder default_lookup base ours → new ≡ old)
         (document_of base.old) (document_of ours.old) (pieces_of theirs.old) (pieces_of theirs.new) }
     ensures theirs_is_base { result ≡ ok → Merges
-        (λ base ours old new. AnswerAlike base (document_in old) → AnswerAlike ours (document_in new))
+        (λ base ours old new. AlikeUnder default_lookup base (document_in old)
+        → AlikeUnder default_lookup ours (document_in new))
         (document_of base.old) (document_of ours.old) (pieces_of theirs.old) (pieces_of theirs.new) }
     ensures both_alike { result ≡ ok → Merges
-        (λ base ours old new. AnswerAlike ours (document_in old) → new ≡ old)
+        (λ base ours old new. AlikeUnder default_lookup ours (document_in old) → new ≡ old)
         (document_of base.old) (document_of ours.old) (pieces_of theirs.old) (pieces_of theirs.new) }
     ensures unplain_value { result ≡ unplain_value → RefusesToMerge write.now (side_if take_ours)
         (document_of base.old) (document_of ours.old) (pieces_of theirs.old) refused.new Value }
@@ -179,7 +185,8 @@ pub extern "C" fn bigrosk_ini_text_merge3(
         return NO_MEMORY;
     };
     let option = write.to_option();
-    match merge(alloc, &option, &base, &ours, theirs, side_of(take_ours)) {
+    let (rule, side) = (Lookup::default(), side_of(take_ours));
+    match merge(alloc, rule, &option, &base, &ours, theirs, side) {
         Ok(new) => {
             theirs.replace_with(new);
             OK

@@ -3,12 +3,16 @@
 ghost use Rattle.std.specs.Prelude.{◌≡◌, ◌↔◌, Err, IfErr, IfOk, IsOkUnless, OnErr, OnOk, alloc_error};
 ghost use Rattle.std.specs.Prelude.{chars, false, is_some, true};
 ghost use Rattle.std.specs.List.{remove};
+ghost use Rattle.std.specs.Option.{option_map};
+ghost use Rattle.ini.specs.Texts.{str_text};
 ghost use Rattle.ini_edit.specs.Edited.{IsKeyOrMemory, IsValueOrMemory};
 ghost use Rattle.ini_edit.specs.Inside.SourceEnds.{IsPairAt};
 ghost use Rattle.ini_edit.specs.Renamed.{IsPlainBareKey};
 ghost use Rattle.ini_edit.specs.SourceEditsAt.{AddsAtIndex, CommentsOutAtIndex, RefusesAtIndex};
-ghost use Rattle.ini_edit.specs.SourceEditsAt.{RefusesToCommentOutAtIndex, RenamesAtIndex, SetsAtIndex};
-ghost use Rattle.ini_edit.specs.SourceEditsAt.{at_section, deleted_at_index, indexed_pair};
+ghost use Rattle.ini_edit.specs.SourceEditsAt.{RefusesCommentAtIndex, RefusesToCommentOutAtIndex};
+ghost use Rattle.ini_edit.specs.SourceEditsAt.{RenamesAtIndex, SetsAtIndex, SetsCommentAtIndex, at_section};
+ghost use Rattle.ini_edit.specs.SourceEditsAt.{deleted_at_index, indexed_pair};
+ghost use Rattle.ini_edit.specs.SourceEditsComments.{IsCommentText, comments_above};
 ghost use Rattle.ini_edit.specs.SourceEditsList.{with_sections};
 ghost use Rattle.ini_edit.specs.SourceWritten.{HasForm, IsWritableNew};
 ghost use Rattle.ini_edit.specs.Sources.{document_in};
@@ -18,6 +22,7 @@ use crate::error::EditError;
 use crate::key::is_plain_bare_key;
 use crate::source::Source;
 use crate::source::add::checked_pair;
+use crate::source::lines::is_comment_text;
 use crate::source::written::{NewPair, is_writable};
 use ini_text::{Error, EscapePolicy, WriteOption};
 use std::alloc::Global;
@@ -171,6 +176,50 @@ impl<'a> Source<'a> {
             return Ok(true);
         }
         Err(EditError::NoPlace)
+    }
+
+    /// The comment lines directly above the pair at an index in the section at an index, as `comment_of` has
+    /// them. `None` where there is no such pair.
+    pub fn comment_at(&self, section: usize, pair: usize) -> Option<&str>
+        ensures { option_map str_text result
+            ≡ option_map comments_above (indexed_pair section pair self.now.sections) }
+    {
+        if !self.has_at(section, pair) {
+            return None;
+        }
+        let front = self.last_before(section);
+        Some(self.sections[section].comments_above(front, pair))
+    }
+
+    /// Puts comment lines directly above the pair at an index in the section at an index, in place of those
+    /// that stand there: whether there is such a pair. The rest is as `set_comment` has it.
+    ///
+    /// # Errors
+    ///
+    /// Those of `set_comment`. Nothing is changed then.
+    pub fn set_comment_at(
+        &mut self,
+        alloc: Global,
+        write: &WriteOption,
+        section: usize,
+        pair: usize,
+        comment: &str,
+    ) -> Result<bool, EditError>
+        ensures set { IfOk result (SetsCommentAtIndex self.old.option write.now self.old self.new section
+            pair (chars comment.now)) }
+        ensures unchanged { OnErr result (self.new ≡ self.old) }
+        ensures comment { OnOk result (IsCommentText (chars comment.now)) }
+        ensures refused { IfErr result (RefusesCommentAtIndex self.old.option write.now self.old.sections
+            section pair (chars comment.now)) }
+    {
+        if !is_comment_text(comment) {
+            return Err(EditError::Value);
+        }
+        if !self.has_at(section, pair) {
+            return Ok(false);
+        }
+        self.put_comment(alloc, write, section, pair, comment)?;
+        Ok(true)
     }
 
     // Whether there is a pair at the index in the section at the index.

@@ -1,9 +1,12 @@
 //! Comments above keys in a text in pieces, and pairs made comments. This file knows sections by their
 //! calls.
-ghost use Rattle.std.specs.Prelude.{◌≡◌, IfErr, IfOk, OnErr, chars};
+ghost use Rattle.std.specs.Prelude.{◌≡◌, IfErr, IfOk, OnErr, OnOk, chars};
 ghost use Rattle.std.specs.Option.{option_map};
 ghost use Rattle.ini.specs.Texts.{str_name, str_text};
-ghost use Rattle.ini_edit.specs.SourceEditsComments.{CommentsOut, RefusesComment, RefusesToCommentOut};
+ghost use Rattle.ini_edit.specs.Inside.SourceEnds.{IsPairAt};
+ghost use Rattle.ini_edit.specs.SourceEditsAt.{IsCommentedAtIndex, RefusesCommentAtIndex, indexed_pair};
+ghost use Rattle.ini_edit.specs.SourceEditsComments.{CommentsOut, IsCommentText, RefusesComment};
+ghost use Rattle.ini_edit.specs.SourceEditsComments.{RefusesToCommentOut};
 ghost use Rattle.ini_edit.specs.SourceEditsComments.{SetsComment, comments_above};
 ghost use Rattle.ini_edit.specs.SourcePlaces.{pair_place};
 
@@ -23,8 +26,7 @@ impl<'a> Source<'a> {
             (chars key.now) 0 self.now.sections) }
     {
         let (section, pair) = self.place(name, key, 0)?;
-        let front = self.last_before(section);
-        Some(self.sections[section].comments_above(front, pair))
+        self.comment_at(section, pair)
     }
 
     /// Puts comment lines directly above the first pair of a key in the first section of a name, in place of
@@ -55,10 +57,33 @@ impl<'a> Source<'a> {
         if !is_comment_text(comment) {
             return Err(EditError::Value);
         }
-        let read = self.option;
         let Some((section, pair)) = self.place(name, key, 0) else {
             return Ok(false);
         };
+        self.put_comment(alloc, write, section, pair, comment)?;
+        Ok(true)
+    }
+
+    // Puts comment lines directly above the pair at the index in the section at the index, in place of those
+    // that stand there. Refused, nothing is changed.
+    pub(crate) fn put_comment(
+        &mut self,
+        alloc: Global,
+        write: &WriteOption,
+        section: usize,
+        pair: usize,
+        comment: &str,
+    ) -> Result<(), EditError>
+        requires text { IsCommentText (chars comment.now) }
+        requires there { IsPairAt (indexed_pair section pair self.old.sections) self.old.sections section
+            pair }
+        ensures put { OnOk result (IsCommentedAtIndex self.old.option write.now self.old self.new section
+            pair (chars comment.now)) }
+        ensures unchanged { OnErr result (self.new ≡ self.old) }
+        ensures refused { IfErr result (RefusesCommentAtIndex self.old.option write.now self.old.sections
+            section pair (chars comment.now)) }
+    {
+        let read = self.option;
         let end = self.line_end(write.line_separator);
         let front = self.last_before(section);
         let new = self.sections[section].with_comments(alloc, front, pair, comment, end, read)?;
@@ -66,7 +91,7 @@ impl<'a> Source<'a> {
             return Err(EditError::NoPlace);
         };
         self.sections[section].put_new_end(pair, new);
-        Ok(true)
+        Ok(())
     }
 
     /// Makes the first pair of a key in the first section of a name a comment, each of its lines after `; `:
@@ -74,8 +99,8 @@ impl<'a> Source<'a> {
     ///
     /// # Errors
     ///
-    /// `NoPlace` where the pair isn't in column one, or a CR alone ends its line: no comment may stand
-    /// there. `Text` where memory is refused. Nothing is changed then.
+    /// `NoPlace` where the pair, its indentation with it, doesn't begin its line, or a CR alone ends that: no
+    /// comment may stand there. `Text` where memory is refused. Nothing is changed then.
     pub fn comment_out(
         &mut self,
         alloc: Global,

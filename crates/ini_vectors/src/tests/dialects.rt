@@ -12,7 +12,9 @@ use std::process::Abort;
 use std::test::Fail;
 
 mod encoding;
+mod flattened;
 mod layers;
+mod merges;
 mod source;
 mod types;
 

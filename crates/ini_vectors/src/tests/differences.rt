@@ -1,8 +1,9 @@
-//! What differs between two documents, setting by setting.
+//! What differs between two documents, setting by setting, and what changes and merges make of a text.
 use super::text_edits::show::put;
 use ini::{Error, Ini, ParseOption, WriteOption};
+use ini_dialect::{AnyDocument, Lookup};
 use ini_edit::{EditError, Source};
-use ini_layers::{Change, Conflict, Side, apply, conflicts, diff, merge, taken};
+use ini_layers::{Change, Conflict, FlatSides, Side, apply, diff, merge};
 use std::alloc::Global;
 use std::panic::Expect;
 use std::process::Abort;
@@ -97,13 +98,26 @@ fn settings_that_differ_are_listed_once(rt: HostRuntime) {
     );
 }
 
-/// A text after the changes from one text to another are made in it.
-fn applied(alloc: Global, from: &str, to: &str, text: &str) -> Result<String, EditError> {
-    let from = Ini::load_from_str(alloc, from)?;
-    let to = Ini::load_from_str(alloc, to)?;
+/// The document of a text, flattened under the rule.
+fn flattened(alloc: Global, rule: Lookup, text: &str) -> Result<Ini, Error> {
+    let document = Ini::load_from_str(alloc, text)?;
+    rule.flattened(alloc, AnyDocument::Ini(&document))
+}
+
+/// A text after the changes from one text to another are made in it under the rule.
+pub(crate) fn applied(
+    alloc: Global,
+    rule: Lookup,
+    from: &str,
+    to: &str,
+    text: &str,
+) -> Result<String, EditError> {
+    let from = flattened(alloc, rule, from)?;
+    let to = flattened(alloc, rule, to)?;
     let changes = diff(alloc, &from, &to)?;
     let source = Source::read(alloc, text, ParseOption::default())?;
-    match apply(alloc, &WriteOption::default(), changes.as_slice(), &source) {
+    let write = WriteOption::default();
+    match apply(alloc, rule, &write, changes.as_slice(), &source) {
         Ok(new) => Ok(new.to_text(alloc)?),
         Err(refused) => Err(refused.refusal),
     }
@@ -148,14 +162,15 @@ fn shown_conflicts(alloc: Global, conflicts: &[Conflict<'_>]) -> Result<String, 
 /// The text of a merge where this side is chosen, and the changes that it makes; a bar after each.
 fn merged_for(
     alloc: Global,
-    base: &Ini,
-    ours: &Ini,
-    theirs: &Source<'_>,
+    rule: Lookup,
+    (base, ours, theirs): (&Ini, &Ini, &Source<'_>),
     side: Side,
 ) -> Result<String, EditError> {
-    let changes = taken(alloc, base, ours, theirs, side)?;
+    let sides = FlatSides::new(alloc, rule, base, ours, theirs)?;
+    let changes = sides.taken(alloc, side)?;
     let changes = shown(alloc, changes.as_slice())?;
-    match merge(alloc, &WriteOption::default(), base, ours, theirs, side) {
+    let write = WriteOption::default();
+    match merge(alloc, rule, &write, base, ours, theirs, side) {
         Ok(new) => {
             let mut out = new.to_text(alloc)?;
             put(&mut out, &["|", changes.as_str(), "|"])?;
@@ -166,13 +181,21 @@ fn merged_for(
 }
 
 /// That for each side, and then the conflicts.
-fn merged(alloc: Global, base: &str, ours: &str, theirs: &str) -> Result<String, EditError> {
+pub(crate) fn merged(
+    alloc: Global,
+    rule: Lookup,
+    base: &str,
+    ours: &str,
+    theirs: &str,
+) -> Result<String, EditError> {
     let base = Ini::load_from_str(alloc, base)?;
     let ours = Ini::load_from_str(alloc, ours)?;
     let theirs = Source::read(alloc, theirs, ParseOption::default())?;
-    let mut out = merged_for(alloc, &base, &ours, &theirs, Side::Ours)?;
-    let by_theirs = merged_for(alloc, &base, &ours, &theirs, Side::Theirs)?;
-    let found = conflicts(alloc, &base, &ours, &theirs)?;
+    let texts = (&base, &ours, &theirs);
+    let mut out = merged_for(alloc, rule, texts, Side::Ours)?;
+    let by_theirs = merged_for(alloc, rule, texts, Side::Theirs)?;
+    let sides = FlatSides::new(alloc, rule, &base, &ours, &theirs)?;
+    let found = sides.conflicts(alloc)?;
     let found = shown_conflicts(alloc, found.as_slice())?;
     put(&mut out, &[by_theirs.as_str(), found.as_str()])?;
     Ok(out)
@@ -234,11 +257,11 @@ const MERGED: [(&str, &str, &str, &str); 10] = [
 fn changes_are_made_and_both_sides_are_merged(rt: HostRuntime) {
     let alloc = rt.alloc();
     for (from, to, text, want) in APPLIED {
-        let got = applied(alloc, from, to, text).expect(&rt, "memory");
+        let got = applied(alloc, Lookup::default(), from, to, text).expect(&rt, "memory");
         assert!(rt; got.as_str() == want, "{text}: {got}");
     }
     for (base, ours, theirs, want) in MERGED {
-        let got = merged(alloc, base, ours, theirs).expect(&rt, "memory");
+        let got = merged(alloc, Lookup::default(), base, ours, theirs).expect(&rt, "memory");
         assert!(rt; got.as_str() == want, "{theirs}: {got}");
     }
 }

@@ -4,7 +4,7 @@ use Rattle.ini.specs.Texts.{str_name}
 use Rattle.ini_edit.proofs.WholeTextLemmas.{read_in_pieces}
 use Rattle.ini_edit.proofs.WholeTextRefusalLemmas.{refusal_of}
 use Rattle.ini_dialect.specs.RuledTexts.{RefusesInText}
-use Rattle.ini_file.specs.Edits.{is_own}
+use Rattle.ini_dialect.specs.Rules.{is_own}
 use Rattle.ini_file.specs.ValueLists.{texts_in}
 use Rattle.ini_file.proofs.FurtherLemmas.{remade, values_option}
 use Rattle.ini_file.proofs.further.with_values.Goals as goal

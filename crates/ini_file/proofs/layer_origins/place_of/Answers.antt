@@ -2,7 +2,7 @@ use Rattle.std.proofs.Common.{◌≡◌, ◌∙◌, [], ap, chars, sym, true, un
 use Rattle.std.proofs.lemmas.Str.{chars-nil}
 use Rattle.ini.specs.Documents.{value_in}
 use Rattle.ini.specs.Texts.{str_name}
-use Rattle.ini_file.specs.Edits.{is_own}
+use Rattle.ini_dialect.specs.Rules.{is_own}
 use Rattle.ini_file.specs.LayerOrigins.{value_by}
 use Rattle.ini_file.proofs.layer_origins.place_of.Goals as goal
 

@@ -1,11 +1,16 @@
-use Rattle.std.proofs.Common.{refl}
+use Rattle.ini_layers.specs.Merging.{conflicts_of}
+use Rattle.ini_file.proofs.LeftLemmas.{refused_early}
 use Rattle.ini_file.proofs.left_conflicts.leave_conflicts.Goals as goal
 
-pub returns-in-Some-clause-left : goal.returns-in-Some-clause-left
-returns-in-Some-clause-left c = rw c.in-Some.is refl
+pub returns-in_default-clause-refused : goal.returns-in_default-clause-refused
+returns-in_default-clause-refused c =
+    refused_early c.args.rule c.args.write.now c.args.side
+    (conflicts_of c.args.sides.now.base c.args.sides.now.ours c.args.sides.now.theirs) c.args.source.now
+    c.no_memory.result c.no_memory.ensures
 
-pub returns-in-None-clause-left : goal.returns-in-None-clause-left
-returns-in-None-clause-left c = rw c.in-None.is c.leave_all.ensures.left
-
-pub returns-in-None-clause-refused : goal.returns-in-None-clause-refused
-returns-in-None-clause-refused c = rw c.in-None.is c.leave_all.ensures.refused
+pub returns-in_default-conflict_lines-clause-refused :
+    goal.returns-in_default-conflict_lines-clause-refused
+returns-in_default-conflict_lines-clause-refused c =
+    refused_early c.args.rule c.args.write.now c.args.side
+    (conflicts_of c.args.sides.now.base c.args.sides.now.ours c.args.sides.now.theirs) c.args.source.now
+    c.no_memory-in_default-conflict_lines.result c.no_memory-in_default-conflict_lines.ensures

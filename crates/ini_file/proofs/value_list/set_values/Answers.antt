@@ -2,7 +2,7 @@ use Rattle.std.proofs.Common.{◌∙◌, chars, refl, sym}
 use Rattle.std.proofs.lemmas.Result.{err_from_is_err_and}
 use Rattle.ini.specs.Texts.{str_name}
 use Rattle.ini_edit.specs.SourceEditsAdded.{RefusesOneValue}
-use Rattle.ini_file.specs.Edits.{is_own}
+use Rattle.ini_dialect.specs.Rules.{is_own}
 use Rattle.ini_file.specs.ValueLists.{texts_in}
 use Rattle.ini_file.proofs.ValueListLemmas.{own_refused}
 use Rattle.ini_file.proofs.value_list.set_values.Goals as goal

@@ -9,17 +9,18 @@ use Rattle.ini_layers.proofs.applying.apply.Goals as goal
 pub returns-in-Err-clause-refused : goal.returns-in-Err-clause-refused
 returns-in-Err-clause-refused c =
     rw (c.refused_at.ensures, c.into.ensures, c.in-Err.ensures.only)
-    (none_made c.args.write.now (map setting_change c.args.changes.now) c.args.source.now)
+    (none_made c.args.rule c.args.write.now (map setting_change c.args.changes.now) c.args.source.now)
 
 pub returns-clause-made : goal.returns-clause-made
 returns-clause-made c =
-    subst (λ p. AreMade c.args.write.now p (map setting_change c.args.changes.now) c.put_each.new.source)
+    subst (λ p. AreMade c.args.rule c.args.write.now p (map setting_change c.args.changes.now)
+    c.put_each.new.source)
     c.in-Ok.ensures.copied c.in_ok-put_each.ensures.made
 
 pub returns-clause-values : goal.returns-clause-values
-returns-clause-values c = made-values c.args.write.now (returns-clause-made c)
+returns-clause-values c = made-values c.args.rule c.args.write.now (returns-clause-made c)
 
 pub returns-clause-leads : goal.returns-clause-leads
 returns-clause-leads c =
-    difference-leads (map setting_change c.args.changes.now) (document_in c.args.source.now) _
+    difference-leads c.args.rule (map setting_change c.args.changes.now) (document_in c.args.source.now) _
     (returns-clause-values c)

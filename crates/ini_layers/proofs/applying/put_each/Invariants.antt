@@ -4,4 +4,5 @@ use Rattle.ini_layers.specs.SourceChanges.{AreMade}
 use Rattle.ini_layers.proofs.applying.put_each.Given as goal
 
 abbrev pub invariant-loop-index : goal.invariant-loop-index
-invariant-loop-index l = AreMade l.write l.fn.source (map setting_change (take l.index l.changes)) l.source
+invariant-loop-index l =
+    AreMade l.rule l.write l.fn.source (map setting_change (take l.index l.changes)) l.source

@@ -1,41 +1,54 @@
-use Rattle.std.proofs.Common.{◌∙◌, ap, map, subst}
+use Rattle.std.proofs.Common.{◌≡◌, arith, map, subst}
 use Rattle.ini_edit.specs.Sources.{document_in}
+use Rattle.ini_dialect.specs.Flattened.{flattened}
 use Rattle.ini_layers.specs.Differences.{setting_change}
-use Rattle.ini_layers.specs.Merging.{taken_changes}
+use Rattle.ini_layers.specs.Merging.{taken_under}
 use Rattle.ini_layers.specs.SourceChanges.{AreMade}
 use Rattle.ini_layers.proofs.MadeLemmas.{made-values, none_made}
 use Rattle.ini_layers.proofs.MergeLemmas.{made-nothing, merged-from_base, taken-alike, taken-merged}
 use Rattle.ini_layers.proofs.MergeLemmas.{taken-none}
+use Rattle.ini_layers.proofs.ToldLemmas.{alike-flat}
 use Rattle.ini_layers.proofs.merging.merge.Goals as goal
 
 pub returns-in-Err-clause-refused : goal.returns-in-Err-clause-refused
 returns-in-Err-clause-refused c =
     rw (c.refused_at.ensures, c.into.ensures, c.in-Err.ensures.only_memory)
-    (none_made c.args.write.now
-    (taken_changes c.args.side c.args.base.now c.args.ours.now (document_in c.args.theirs.now))
-    c.args.theirs.now)
+    (none_made c.args.rule c.args.write.now (taken_under c.args.rule c.args.side c.args.base.now
+    c.args.ours.now (document_in c.args.theirs.now)) c.args.theirs.now)
+
+pub returns-in-Err-taken-clause-refused : goal.returns-in-Err-taken-clause-refused
+returns-in-Err-taken-clause-refused c =
+    rw (c.refused_at-in-Err-taken.ensures, c.into-in-Err-taken.ensures, c.in-Err-taken.ensures.only_memory)
+    (none_made c.args.rule c.args.write.now (taken_under c.args.rule c.args.side c.args.base.now
+    c.args.ours.now (document_in c.args.theirs.now)) c.args.theirs.now)
 
 pub returns-clause-made : goal.returns-clause-made
 returns-clause-made c =
-    subst (λ cs. AreMade c.args.write.now c.args.theirs.now cs c.in_ok-new.new)
-    (ap (map setting_change) c.as_slice.ensures.value ∙ c.in-Ok.ensures.taken) c.in_ok-new.ensures.made
+    let is : map setting_change c.as_slice.result.now ≡ taken_under c.args.rule c.args.side c.args.base.now
+    c.args.ours.now (document_in c.args.theirs.now) = grind arith in
+    subst (λ cs. AreMade c.args.rule c.args.write.now c.args.theirs.now cs c.in_ok-new.new) is
+    c.in_ok-new.ensures.made
 
 pub returns-clause-merged : goal.returns-clause-merged
 returns-clause-merged c =
-    taken-merged c.args.side c.args.base.now c.args.ours.now (document_in c.args.theirs.now) _
-    (made-values c.args.write.now (returns-clause-made c))
+    taken-merged c.args.rule c.args.side c.args.base.now c.args.ours.now (document_in c.args.theirs.now) _
+    (made-values c.args.rule c.args.write.now (returns-clause-made c))
 
 pub returns-clause-ours_is_base : goal.returns-clause-ours_is_base
 returns-clause-ours_is_base c = λ agree.
-    made-nothing c.args.write.now (returns-clause-made c)
-    (taken-none c.args.side c.args.base.now c.args.ours.now (document_in c.args.theirs.now) agree)
+    made-nothing c.args.rule c.args.write.now (returns-clause-made c)
+    (taken-none c.args.side (flattened c.args.rule c.args.base.now) (flattened c.args.rule c.args.ours.now)
+    (flattened c.args.rule (document_in c.args.theirs.now))
+    (alike-flat c.args.rule c.args.base.now c.args.ours.now agree))
 
 pub returns-clause-theirs_is_base : goal.returns-clause-theirs_is_base
 returns-clause-theirs_is_base c =
-    merged-from_base c.args.side c.args.base.now c.args.ours.now (document_in c.args.theirs.now) _
-    (returns-clause-merged c)
+    merged-from_base c.args.rule c.args.side c.args.base.now c.args.ours.now
+    (document_in c.args.theirs.now) _ (returns-clause-merged c)
 
 pub returns-clause-both_alike : goal.returns-clause-both_alike
 returns-clause-both_alike c = λ agree.
-    made-nothing c.args.write.now (returns-clause-made c)
-    (taken-alike c.args.side c.args.base.now c.args.ours.now (document_in c.args.theirs.now) agree)
+    made-nothing c.args.rule c.args.write.now (returns-clause-made c)
+    (taken-alike c.args.side (flattened c.args.rule c.args.base.now)
+    (flattened c.args.rule c.args.ours.now) (flattened c.args.rule (document_in c.args.theirs.now))
+    (alike-flat c.args.rule c.args.ours.now (document_in c.args.theirs.now) agree))

@@ -5,7 +5,7 @@ use Rattle.ini_dialect.specs.SourceLookups.{by_first}
 use Rattle.ini_dialect.proofs.DeletedUnderLemmas.{fewer_pairs, pairs_count, so_far_deleted, so_far_document}
 use Rattle.ini_dialect.proofs.DeletedUnderLemmas.{so_far_found, so_far_more, so_far_none}
 use Rattle.ini_dialect.proofs.PutUnderLemmas.{deletes_there}
-use Rattle.ini_dialect.proofs.rule.Lookup.delete_each.Goals as goal
+use Rattle.ini_dialect.proofs.rule.Lookup.delete_each_in_source.Goals as goal
 
 pub pairs-init : goal.pairs-init
 pairs-init c = so_far_none c.args.self (str_name c.args.name) (chars c.args.key.now) c.args.source.now

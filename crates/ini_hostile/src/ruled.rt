@@ -1,0 +1,224 @@
+//! What a rule like git's makes of texts, with each request for memory refused in turn: a document of its
+//! own, changes made in a text in pieces, a three-way merge, and its conflicts. Refused, the call tells that
+//! and the text stays. And large texts, for which memory is enough.
+use crate::scarce::{Attempt, refusals};
+use crate::show::{expect_text, joined, loaded, numbered, shown};
+use ini::{Error, Ini, ParseOption, WriteOption};
+use ini_dialect::{AnyDocument, CaseRule, Lookup, SectionRule, ValueRule};
+use ini_edit::{EditError, Source};
+use ini_layers::{Change, FlatSides, Side, apply, apply_in_place, diff, merge};
+use ini_view::View;
+use std::alloc::Global;
+use std::panic::Expect;
+use std::process::Abort;
+
+/// Sections of one name are one, the last value counts, and case tells nothing apart.
+const RULE: Lookup = Lookup {
+    sections: SectionRule::Joined,
+    values: ValueRule::Last,
+    case: CaseRule::Ignored,
+};
+
+const BASE: &'static str = "[a]\nk=0\nl=0\n[A]\nK=1\n";
+
+const OURS: &'static str = "[a]\nk=2\n[B]\nj=1\n";
+
+const THEIRS: &'static str = "; c\n[a]\nk = 1\nj=0\n[b]\nl=5\n[A]\nK = 3\nL=0\ni=4\n";
+
+/// The calls, and what each makes of these.
+const ROWS: [(&'static str, &'static str); 8] = [
+    ("flatten a document", "general: [a]: <k|1> <l|0> "),
+    ("flatten a view", "general: [a]: <k|1> <l|0> "),
+    (
+        "flatten pieces",
+        "general: [a]: <k|3> <j|0> <l|0> <i|4> [b]: <l|5> ",
+    ),
+    (
+        "apply",
+        "; c\n[a]\nk = 1\nj=0\n[b]\nl=5\nj=1\n[A]\nK = 2\ni=4\n",
+    ),
+    (
+        "apply in place",
+        "; c\n[a]\nk = 1\nj=0\n[b]\nl=5\n[A]\nK = new\nL=0\ni=4\n",
+    ),
+    (
+        "merge for ours",
+        "; c\n[a]\nk = 1\nj=0\n[b]\nl=5\nj=1\n[A]\nK = 2\ni=4\n",
+    ),
+    (
+        "merge for theirs",
+        "; c\n[a]\nk = 1\nj=0\n[b]\nl=5\nj=1\n[A]\nK = 3\ni=4\n",
+    ),
+    ("conflicts", "a k 1 2 3\n"),
+];
+
+/// Conflicts, a line each: the section's name, the key, and the three values.
+fn conflicts(alloc: Global, sides: &FlatSides) -> Result<String, Error> {
+    let mut out = String::new(alloc);
+    for conflict in &sides.conflicts(alloc)? {
+        let change = conflict.change;
+        let (name, key) = (change.name.unwrap_or("general"), change.key);
+        let (base, ours) = (change.old.unwrap_or("none"), change.new.unwrap_or("none"));
+        let theirs = conflict.theirs.unwrap_or("none");
+        out.push_str(format!(in alloc; "{name} {key} {base} {ours} {theirs}\n")?.as_str())?;
+    }
+    Ok(out)
+}
+
+/// A call, its texts, and what it has made.
+#[derive(Drop)]
+struct Ruled<'a> {
+    call: &'a str,
+    base: Ini,
+    base_view: View<'a>,
+    ours: Ini,
+    theirs: Source<'a>,
+    made: Option<String>,
+}
+
+impl Ruled<'_> {
+    // Whether what was made, or else theirs, is this text.
+    fn is_text(&self, alloc: Global, want: &str) -> bool {
+        if let Some(text) = &self.made {
+            return text.as_str() == want;
+        }
+        match self.theirs.to_text(alloc) {
+            Ok(text) => text.as_str() == want,
+            Err(_) => false,
+        }
+    }
+
+    fn flattened(&self, alloc: Global) -> Result<Ini, Error> {
+        let document = match self.call {
+            "flatten a document" => AnyDocument::Ini(&self.base),
+            "flatten a view" => AnyDocument::View(&self.base_view),
+            _ => AnyDocument::Source(&self.theirs),
+        };
+        RULE.flattened(alloc, document)
+    }
+
+    // Makes what ours changed in theirs.
+    fn applied(&self, alloc: Global) -> Result<String, EditError> {
+        let base = RULE.flattened(alloc, AnyDocument::Ini(&self.base))?;
+        let ours = RULE.flattened(alloc, AnyDocument::Ini(&self.ours))?;
+        let changes = diff(alloc, &base, &ours)?;
+        let write = WriteOption::default();
+        match apply(alloc, RULE, &write, changes.as_slice(), &self.theirs) {
+            Ok(new) => Ok(new.to_text(alloc)?),
+            Err(refused) => Err(refused.refusal),
+        }
+    }
+
+    fn merged(&self, alloc: Global, side: Side) -> Result<String, EditError> {
+        let write = WriteOption::default();
+        let (base, ours, theirs) = (&self.base, &self.ours, &self.theirs);
+        match merge(alloc, RULE, &write, base, ours, theirs, side) {
+            Ok(new) => Ok(new.to_text(alloc)?),
+            Err(refused) => Err(refused.refusal),
+        }
+    }
+
+    // What the call makes, if it is no text in place of theirs.
+    fn answer(&mut self, alloc: Global) -> Result<Option<String>, EditError> {
+        match self.call {
+            "apply" => Ok(Some(self.applied(alloc)?)),
+            "merge for ours" => Ok(Some(self.merged(alloc, Side::Ours)?)),
+            "merge for theirs" => Ok(Some(self.merged(alloc, Side::Theirs)?)),
+            "conflicts" => {
+                let sides = FlatSides::new(alloc, RULE, &self.base, &self.ours, &self.theirs)?;
+                Ok(Some(conflicts(alloc, &sides)?))
+            }
+            "apply in place" => {
+                let change = Change {
+                    name: Some("A"),
+                    key: "k",
+                    old: None,
+                    new: Some("new"),
+                };
+                let write = WriteOption::default();
+                apply_in_place(alloc, RULE, &write, change, &mut self.theirs)?;
+                Ok(None)
+            }
+            _ => {
+                let flat = self.flattened(alloc)?;
+                Ok(Some(shown(alloc, &flat).map_err(Error::from)?))
+            }
+        }
+    }
+}
+
+impl Attempt for Ruled<'_> {
+    fn is_ready(&mut self, alloc: Global) -> bool {
+        self.is_text(alloc, THEIRS)
+    }
+
+    fn make(&mut self, alloc: Global) -> Result<(), Error> {
+        match self.answer(alloc) {
+            Ok(made) => {
+                self.made = made;
+                Ok(())
+            }
+            Err(EditError::Text(refused)) => Err(refused),
+            Err(_) => Err(Error::NotUtf8),
+        }
+    }
+}
+
+#[test]
+fn each_request_of_a_call_under_a_rule_is_refused(rt: HostRuntime) {
+    let alloc = rt.alloc();
+    for (call, want) in ROWS {
+        let mut ruled = Ruled {
+            call,
+            base: loaded(&rt, BASE),
+            base_view: View::load_from_str(alloc, BASE).expect(&rt, "a view"),
+            ours: loaded(&rt, OURS),
+            theirs: Source::read(alloc, THEIRS, ParseOption::default()).expect(&rt, "pieces"),
+            made: None,
+        };
+        // as few bytes as any block takes
+        let refused = refusals(&rt, call, 2, &mut ruled);
+        assert!(rt; refused > 0 && ruled.is_text(alloc, want), "{call}");
+    }
+}
+
+// A section of two thousand keys and two thousand sections, of which the first values are this one, and an
+// end.
+fn large(rt: &(impl Abort + AllocGlobal), first: &str, end: &str) -> String {
+    let pairs = numbered(rt, "key@=@\n", 1, 1999);
+    let sections = numbered(rt, "[section @]\nk=@\n", 1, 1999);
+    let before = joined(rt, &["[a]\nkey0=", first, "\n", &pairs]);
+    joined(
+        rt,
+        &[&before, "[section 0]\nk=", first, "\n", &sections, end],
+    )
+}
+
+/// The last key and the last section again, in other letters.
+const AGAIN: &'static str = "[A]\nKEY1999 = x\n[Section 1999]\nK = y\n";
+
+#[test]
+fn large_texts_are_merged_by_a_rule(rt: HostRuntime) {
+    let alloc = rt.alloc();
+    let base = loaded(&rt, &large(&rt, "0", ""));
+    let ours = loaded(&rt, &large(&rt, "new", "[a]\nkey1999=z\n"));
+    let text = large(&rt, "0", AGAIN);
+    let theirs = Source::read(alloc, &text, ParseOption::default()).expect(&rt, "pieces");
+    let sides = FlatSides::new(alloc, RULE, &base, &ours, &theirs).expect(&rt, "memory");
+    let flat = &sides.theirs;
+    assert!(rt; flat.len() == 2002);
+    assert!(rt; flat.get_from(Some("a"), "key1999") == Some("x"));
+    assert!(rt; flat.get_from(Some("a"), "key1998") == Some("1998"));
+    assert!(rt; flat.get_from(Some("section 1999"), "k") == Some("y"));
+    let found = conflicts(alloc, &sides).expect(&rt, "memory");
+    expect_text(&rt, &found, "a key1999 1999 z x\n");
+    let write = WriteOption::default();
+    for (side, end) in [
+        (Side::Theirs, AGAIN),
+        (Side::Ours, "[A]\nKEY1999 = z\n[Section 1999]\nK = y\n"),
+    ] {
+        let merged = merge(alloc, RULE, &write, &base, &ours, &theirs, side).expect(&rt, "memory");
+        let merged = merged.to_text(alloc).expect(&rt, "memory");
+        expect_text(&rt, &merged, &large(&rt, "new", end));
+    }
+}
