@@ -124,6 +124,9 @@ def table(name):
 
 def main():
     page = PAGE.read_text(encoding="utf-8")
+    lost = set(TABLES) - set(re.findall(r"<!-- made: (\w+) -->", page))
+    if lost:
+        sys.exit(f"contracts.py: docs/CONTRACTS.md has no place for {', '.join(sorted(lost))}")
     made = re.sub(
         r"(<!-- made: (\w+) -->\n).*?(<!-- end -->)",
         lambda part: part[1] + table(part[2]) + "\n" + part[3],

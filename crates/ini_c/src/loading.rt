@@ -6,7 +6,7 @@ ghost use Rattle.ini_c.specs.Faults.{IsStopAt};
 ghost use Rattle.ini_c.specs.Held.{document_in};
 ghost use Rattle.ini_c.specs.Statuses.{broken, is_among, no_memory, not_utf8, ok};
 
-use crate::document::{Document, Kept};
+use crate::document::{Document, Kept, OwnPieces};
 use crate::fault::{Fault, tell};
 use crate::{BROKEN, NO_MEMORY, NOT_UTF8, OK};
 use ini::{Error, Ini, ParseOption};
@@ -25,7 +25,8 @@ fn load(alloc: Global, bytes: &[u8], read: ParseOption) -> Result<Box<Kept>, Err
         return Err(Error::NotUtf8);
     };
     let document = Ini::load_from_str_opt(alloc, text, read)?;
-    let text = no_text(alloc, read)?;
+    let pieces = no_text(alloc, read)?;
+    let text = OwnPieces { pieces };
     let kept = Box::new(alloc, Kept { document, text })?;
     Ok(kept)
 }

@@ -21,7 +21,7 @@ impl Text {
         ensures text { option_copied result ≡ pieces_of self.old }
     {
         if self.is_open {
-            Some(&self.handle.kept_mut().text)
+            Some(&self.handle.kept_mut().text.pieces)
         } else {
             None
         }
@@ -34,7 +34,7 @@ impl Text {
         ensures text { option_map (λ source. source.now) result ≡ pieces_of self.old }
     {
         if self.is_open {
-            Some(&mut self.handle.kept_mut().text)
+            Some(&mut self.handle.kept_mut().text.pieces)
         } else {
             None
         }

@@ -67,7 +67,8 @@ module _ (o : ParseOption) (kept lines rest : Text) where
 
   module _ (s : SectionPiece) (e : NewEnd) (raw : Option (String Global)) where
     abbrev with_raw : NewEnd
-    with_raw = record { last_word = raw; trailing_lines = e.trailing_lines; after = e.after }
+    with_raw =
+        record { last_word = raw; trailing_lines = e.trailing_lines; after = e.after; room = e.room }
 
     -- with the last pair's last word closed, or not
     abbrev ClosesInto : Bool → List PairPiece → Type 0
@@ -137,7 +138,8 @@ module _ (o : ParseOption) (kept lines rest : Text) where
   pub kept_put : (s : SectionPiece) (e : NewEnd) → IsKept o kept lines rest s.pairs e
       → end_put_last e s ≡ put_after_kept o kept lines rest s
   kept_put s e is =
-      ap (λ r. end_put_last (record { last_word = r; trailing_lines = e.trailing_lines; after = e.after }) s)
+      ap (λ r. end_put_last
+      (record { last_word = r; trailing_lines = e.trailing_lines; after = e.after; room = e.room }) s)
       is.last_word
       ∙ closed_put s e None false (λ front p same. refl) is
 

@@ -2,6 +2,7 @@ pub mod CommentStates
 pub mod InPlace
 pub mod KeyEdges
 pub mod Lines
+pub mod PairForms
 pub mod Quotes
 pub mod RawTests
 pub mod Sortings

@@ -97,7 +97,8 @@ impl<'a> Source<'a> {
                     section = SourceSection::new(alloc, name, source, following.gap);
                 }
                 Content::Pair(pair) => {
-                    section.push(SourcePair::new(pair, following.gap))?;
+                    let new = SourcePair::new(alloc, pair, following.gap)?;
+                    section.push(new)?;
                 }
             }
             next = following.item;
@@ -196,7 +197,7 @@ fn send_sections<W: Write>(
     Ok(())
 }
 
-// Puts a section last.
+// Puts a section last, which has all its pairs.
 fn push_section<'a>(
     sections: &mut Vec<SourceSection<'a>>,
     section: SourceSection<'a>,
@@ -205,6 +206,8 @@ fn push_section<'a>(
     ensures kept { OnErr result (sections.new.items ≡ sections.old.items) }
     ensures only { IsOkUnless result (Error.Memory alloc_error) }
 {
+    let mut section = section;
+    section.shrink();
     match sections.push(section) {
         Ok(()) => Ok(()),
         Err(_) => Err(Error::Memory(AllocError)),

@@ -1,6 +1,6 @@
 -- How a three-way merge of files ends, and its exit status.
-use Rattle.std.specs.Prelude.{◌≡◌, ◌==◌, ℕ, false, true, if◌then◌else◌, List, [], ◌++◌, Option, Some, ⊤, chars}
-use Rattle.std.specs.Prelude.{flat_map, unwrap_or, vec_len}
+use Rattle.std.specs.Prelude.{◌≡◌, ◌==◌, ℕ, false, true, if◌then◌else◌, List, [], ◌++◌, Option, Some, ⊤}
+use Rattle.std.specs.Prelude.{chars, flat_map, unwrap_or, vec_len}
 use Rattle.std.specs.Str.{IsUtf8}
 use Rattle.ini_text.specs.Parsing.ByteOrderMarks.{has_byte_order_mark, without_byte_order_mark}
 use Rattle.ini_text.specs.declared.error.Error.{Error}

@@ -8,9 +8,10 @@ ghost use Rattle.ini_layers.specs.SourceChanges.{RefusesValue};
 ghost use Rattle.ini_file.specs.ChangeLines.{conflict_line, escaped_part};
 ghost use Rattle.ini_file.specs.LeftConflicts.{AreLeft, AreLeftUnless, IsLeft, IsPutAbove, MakesOurs};
 ghost use Rattle.ini_file.specs.LeftConflicts.{RefusesAbove, RefusesOneToLeave, RefusesToLeave};
-ghost use Rattle.ini_file.specs.LeftConflicts.{RefusesUnless, refused_before, side_comment};
+ghost use Rattle.ini_file.specs.LeftConflicts.{RefusesUnless, side_comment};
 
 use crate::change_lines::{conflict_lines, push_parts};
+use crate::ruled_merge::refused_first;
 use ini_dialect::Lookup;
 use ini_edit::{EditError, RefusedEdit, Source};
 use ini_layers::{Change, Conflict, FlatSides, Side, apply_in_place};
@@ -40,25 +41,19 @@ pub fn leave_conflicts(
     ensures refused { IfErr result (RefusesUnless rule write.now side source.old
         (conflicts_of sides.now.base sides.now.ours sides.now.theirs)) }
 {
-    let Ok(conflicts) = sides.conflicts(alloc) else {
-        return Err(no_memory());
+    let conflicts = match sides.conflicts(alloc) {
+        Ok(conflicts) => conflicts,
+        Err(refused) => return Err(refused_first(refused)),
     };
     let conflicts = conflicts.as_slice();
-    let Ok(lines) = conflict_lines(alloc, conflicts) else {
-        return Err(no_memory());
+    let lines = match conflict_lines(alloc, conflicts) {
+        Ok(lines) => lines,
+        Err(AllocError) => return Err(refused_first(Error::Memory(AllocError))),
     };
     if side.is_none() {
         leave_each(alloc, rule, write, conflicts, source)?;
     }
     Ok(lines)
-}
-
-// Out of memory before any conflict is left.
-fn no_memory() -> RefusedEdit
-    ensures { result ≡ refused_before }
-{
-    let refusal = EditError::Text(Error::Memory(AllocError));
-    RefusedEdit { index: 0, refusal }
 }
 
 // Leaves one after another.

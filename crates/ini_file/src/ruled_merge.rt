@@ -127,8 +127,8 @@ fn set_one(
     }
 }
 
-// The text is refused, or memory is, which is told of the first edit.
-fn refused_first(refused: Error) -> RefusedEdit
+/// The text is refused, or memory is, which is told of the first edit.
+pub(crate) fn refused_first(refused: Error) -> RefusedEdit
     ensures { result ≡ record { index = 0; refusal = EditErrors.Text refused } }
 {
     RefusedEdit {

@@ -16,7 +16,7 @@ use crate::ruled::Ruled;
 use ini::{Error, Ini};
 use ini_dialect::Lookup;
 use ini_edit::{RefusedEdit, Source};
-use ini_layers::{FlatSides, Side, merge};
+use ini_layers::{FlatSides, Side};
 use ini_text::WriteOption;
 use std::alloc::{AllocError, Global};
 
@@ -98,13 +98,13 @@ fn merge_into(
         Ok(write) => write,
         Err(refused) => return ThreeWayEnd::Theirs(refused),
     };
-    let mut new = match merge_below(alloc, ruled.rule, &write, side, base, ours, &theirs) {
-        Ok(new) => new,
-        Err(refused) => return ThreeWayEnd::Change(refused),
-    };
     let flat = match FlatSides::new(alloc, ruled.rule, base, ours, &theirs) {
         Ok(flat) => flat,
         Err(refused) => return ThreeWayEnd::Theirs(refused),
+    };
+    let mut new = match flat.merge(alloc, ruled.rule, &write, &theirs, side_below(side)) {
+        Ok(new) => new,
+        Err(refused) => return ThreeWayEnd::Change(refused),
     };
     let conflicts = match leave_conflicts(alloc, ruled.rule, &write, side, &flat, &mut new) {
         Ok(conflicts) => conflicts,
@@ -115,26 +115,6 @@ fn merge_into(
         Ok(None) => ThreeWayEnd::GetsMark,
         Err(AllocError) => ThreeWayEnd::Theirs(Error::Memory(AllocError)),
     }
-}
-
-// Theirs with the changes of ours, in which conflicts may be left.
-fn merge_below<'a>(
-    alloc: Global,
-    rule: Lookup,
-    write: &WriteOption,
-    side: Option<Side>,
-    base: &Ini,
-    ours: &Ini,
-    theirs: &Source<'a>,
-) -> Result<Source<'a>, RefusedEdit>
-    ensures merged { IfOk result (λ new. IsMerged rule (side_below side) base.now ours.now
-        (document_in theirs.now) (document_in new)) }
-    ensures made { IfOk result (AreMade rule write.now theirs.now
-        (taken_under rule (side_below side) base.now ours.now (document_in theirs.now))) }
-    ensures refused { IfErr result (RefusesOne rule write.now theirs.now
-        (taken_under rule (side_below side) base.now ours.now (document_in theirs.now))) }
-{
-    merge(alloc, rule, write, base, ours, theirs, side_below(side))
 }
 
 /// Whose value of a conflict a merge begins with: that of theirs, in which both are left, where no side is

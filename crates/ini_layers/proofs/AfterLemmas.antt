@@ -77,9 +77,11 @@ module _ (name : Option Text) (key : Text) where
               let rest = list_any (is_setting (name, key)) ss in
               let all : cond ((is_setting (name, key) s || rest) && test here) (value_in name key to) value
               ≡ value_in name key to = rw (same, passes) refl in
-              ap (λ l. value_after (is_of name key) l value) first ∙ ap (value_after (is_of name key) others) taken
+              ap (λ l. value_after (is_of name key) l value) first
+              ∙ ap (value_after (is_of name key) others) taken
               ∙ later (value_in s.0 s.1 to)
-              ∙ ap (cond (rest && test here) (value_in name key to)) new ∙ new_or_new (rest && test here)
+              ∙ ap (cond (rest && test here) (value_in name key to)) new
+              ∙ new_or_new (rest && test here)
               ∙ sym all
           at_same same (inr fails) later =
               let e : (name, key) ≡ s = settings_equal (name, key) s same in

@@ -10,6 +10,7 @@ use Rattle.ini_dialect.specs.declared.rule.Lookup.{Lookup}
 use Rattle.ini_layers.specs.Differences.{SettingChange, change_of, difference, is_of, setting_change}
 use Rattle.ini_layers.specs.Settings.{AlikeUnder}
 use Rattle.ini_layers.specs.declared.merging.Conflict.{Conflict}
+use Rattle.ini_layers.specs.declared.merging.FlatSides.{FlatSides}
 use Rattle.ini_layers.specs.declared.merging.Side.{Side}
 use Rattle.ini_layers.specs.declared.merging.Side.TheVariants.{Ours, Theirs}
 
@@ -94,3 +95,8 @@ HasConflictsOf base ours theirs conflicts = (name : Option Text) (key : Text)
 abbrev pub conflicts_under : Lookup → (base ours theirs : Document) → List SettingConflict
 conflicts_under rule base ours theirs =
     conflicts_of (flattened rule base) (flattened rule ours) (flattened rule theirs)
+
+-- the three documents under a rule
+abbrev pub flat_sides : Lookup → (base ours theirs : Document) → FlatSides
+flat_sides rule base ours theirs =
+    record { base = flattened rule base; ours = flattened rule ours; theirs = flattened rule theirs }

@@ -3,8 +3,8 @@
 //! setting by setting, and three-way merges.
 //!
 //! `Layers` is seen as the list of its documents. What is said of differences is of look-ups alone: comments,
-//! blanks, order and spelling are none. Under a dialect's rule documents are flattened before, and changes are
-//! made by the rule's edits.
+//! blanks, order and spelling are none. Under a dialect's rule documents are flattened before, and changes
+//! are made by the rule's edits.
 #![tactic(auto)]
 
 mod applying;

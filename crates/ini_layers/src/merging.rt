@@ -2,12 +2,13 @@
 //! calls.
 ghost use Rattle.std.specs.Prelude.{◌≡◌, ◌↔◌, [], ◌∷◌, ◌++◌, IfErr, IfOk, IsOkUnless, OnOk, alloc_error};
 ghost use Rattle.std.specs.Prelude.{filter, map};
+ghost use Rattle.ini.specs.Documents.{Document};
 ghost use Rattle.ini.specs.Texts.{str_name};
 ghost use Rattle.ini_dialect.specs.Flattened.{flattened};
 ghost use Rattle.ini_edit.specs.Sources.{document_in};
 ghost use Rattle.ini_layers.specs.Differences.{setting_change};
 ghost use Rattle.ini_layers.specs.Merging.{HasConflictsOf, HaveNoConflict, IsMerged, conflicts_of};
-ghost use Rattle.ini_layers.specs.Merging.{conflicts_with, is_conflict, is_taken, is_taken_at};
+ghost use Rattle.ini_layers.specs.Merging.{conflicts_with, flat_sides, is_conflict, is_taken, is_taken_at};
 ghost use Rattle.ini_layers.specs.Merging.{setting_conflict, taken_changes, taken_under, with_theirs};
 ghost use Rattle.ini_layers.specs.Settings.{AlikeUnder};
 ghost use Rattle.ini_layers.specs.SourceChanges.{AreMade, RefusesOne};
@@ -71,11 +72,7 @@ pub fn merge<'a>(
         Ok(sides) => sides,
         Err(refusal) => return Err(refused_at(0, refusal.into())),
     };
-    let changes = match sides.taken(alloc, side) {
-        Ok(changes) => changes,
-        Err(refusal) => return Err(refused_at(0, refusal.into())),
-    };
-    let new = apply(alloc, rule, write, changes.as_slice(), theirs)?;
+    let new = sides.merge(alloc, rule, write, theirs, side)?;
     Ok(new)
 }
 
@@ -106,6 +103,36 @@ impl FlatSides {
             ours: rule.flattened(alloc, AnyDocument::Ini(ours))?,
             theirs: rule.flattened(alloc, AnyDocument::Source(theirs))?,
         })
+    }
+
+    /// Theirs, of which these sides were flattened under the rule, with the changes that `taken` lists: what
+    /// `merge` makes.
+    ///
+    /// # Errors
+    ///
+    /// Those of `merge`.
+    pub fn merge<'a>(
+        &self,
+        alloc: Global,
+        rule: Lookup,
+        write: &WriteOption,
+        theirs: &Source<'a>,
+        side: Side,
+    ) -> Result<Source<'a>, RefusedEdit>
+        ensures merged { (base ours : Document)
+            → self.now ≡ flat_sides rule base ours (document_in theirs.now)
+            → IfOk result (λ new. IsMerged rule side base ours (document_in theirs.now) (document_in new)) }
+        ensures made { IfOk result (AreMade rule write.now theirs.now
+            (taken_changes side self.now.base self.now.ours self.now.theirs)) }
+        ensures refused { IfErr result (RefusesOne rule write.now theirs.now
+            (taken_changes side self.now.base self.now.ours self.now.theirs)) }
+    {
+        let changes = match self.taken(alloc, side) {
+            Ok(changes) => changes,
+            Err(refusal) => return Err(refused_at(0, refusal.into())),
+        };
+        let new = apply(alloc, rule, write, changes.as_slice(), theirs)?;
+        Ok(new)
     }
 
     /// The changes of ours to the base that a merge makes in theirs: those of settings that theirs didn't

@@ -11,7 +11,7 @@ ghost use Rattle.ini_c.specs.Statuses.{broken, is_among, no_document, no_memory,
 ghost use Rattle.ini_c.specs.Texts.{IsOpened, bytes_in};
 
 use crate::copies::give;
-use crate::document::{Kept, Text};
+use crate::document::{Kept, OwnPieces, Text};
 use crate::fault::{Fault, tell};
 use crate::options::ReadChoice;
 use crate::{BROKEN, NO_DOCUMENT, NO_MEMORY, NOT_UTF8, OK};
@@ -30,7 +30,8 @@ fn opened(alloc: Global, bytes: &[u8], read: ParseOption) -> Result<Box<Kept>, E
     let Ok(text) = str::from_utf8(bytes) else {
         return Err(Error::NotUtf8);
     };
-    let text = Source::read_owned(alloc, text, read)?;
+    let pieces = Source::read_owned(alloc, text, read)?;
+    let text = OwnPieces { pieces };
     let document = Ini::new(alloc)?;
     Ok(Box::new(alloc, Kept { document, text })?)
 }

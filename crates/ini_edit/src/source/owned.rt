@@ -46,7 +46,8 @@ impl<'a> Source<'a> {
                     section = SourceSection::new(alloc, name, source, following.gap);
                 }
                 Content::Pair(pair) => {
-                    section.push(SourcePair::new(pair, following.gap))?;
+                    let new = SourcePair::new(alloc, pair, following.gap)?;
+                    section.push(new)?;
                 }
             }
             next = following.item;

@@ -1,5 +1,5 @@
 //! A pair of a text in pieces. This file knows the stretches of a pair, and no section.
-ghost use Rattle.std.specs.Prelude.{◌≡◌, ◌++◌, IsOkUnless, OnErr, OnOk, alloc_error, chars};
+ghost use Rattle.std.specs.Prelude.{◌≡◌, ◌++◌, IfOk, IsOkUnless, OnErr, OnOk, alloc_error, chars};
 ghost use Rattle.ini.specs.Texts.{str_text};
 ghost use Rattle.ini_text.specs.Device.Gathering.{Sends};
 ghost use Rattle.ini_text.specs.Device.Watched.{IsClear};
@@ -9,14 +9,18 @@ ghost use Rattle.ini_edit.specs.Sources.{pair_text, placed_piece};
 
 use crate::append::push_text;
 use crate::key::push_key;
+use crate::source::pair::lent::LentPair;
+use crate::source::pair::own::PairParts;
 use crate::source::sending::{put_before, put_both};
 use ini_text::{Error, EscapePolicy, Gatherer, ParseOption, PlacedPair, Watched};
 use std::alloc::Global;
-use std::borrow::CowStr;
 use std::io::Write;
 use std::marker::Model;
 
 pub(crate) mod ends;
+mod kept;
+pub(crate) mod lent;
+pub(crate) mod own;
 pub(crate) mod owned;
 mod parts;
 
@@ -24,72 +28,67 @@ mod parts;
 /// header.
 #[derive(Debug, Drop)]
 pub struct SourcePair<'a> {
-    key: CowStr<'a>,
-    value: CowStr<'a>,
-    raw_key: CowStr<'a>,
-    separator: Option<char>,
-    space_before: CowStr<'a>,
-    raw_value: CowStr<'a>,
-    space_after: CowStr<'a>,
-    note: CowStr<'a>,
-    trailing_lines: CowStr<'a>,
-    after: CowStr<'a>,
+    form: PairForm<'a>,
+}
+
+// A pair as it stands in the text, as most do, or with parts of its own.
+#[derive(Debug, Drop)]
+pub(crate) enum PairForm<'a> {
+    Lent(LentPair<'a>),
+    Kept(Box<PairParts<'a>>),
 }
 
 impl<'a> Model for SourcePair<'a> {
-    ghost use Rattle.ini_text.specs.Parsing.Items.{cow_text};
+    ghost use Rattle.ini_edit.specs.Inside.PairForms.{piece_of};
     ghost use Rattle.ini_edit.specs.Sources.{PairPiece};
 
     ghost Value = { PairPiece };
 
-    ghost view = { λ p. record {
-      stretches = record {
-        key = cow_text p.raw_key;
-        separator = p.separator;
-        space_before = cow_text p.space_before;
-        raw_value = cow_text p.raw_value;
-        space_after = cow_text p.space_after;
-        note = cow_text p.note;
-        trailing_lines = cow_text p.trailing_lines;
-      };
-      key = cow_text p.key;
-      value = cow_text p.value;
-      after = cow_text p.after;
-    } };
+    ghost view = { λ p. piece_of p.form };
 }
 
 impl<'a> SourcePair<'a> {
     // A pair as it stands in a text, and what follows it there.
-    pub(crate) fn new(pair: PlacedPair<'a>, after: &'a str) -> Self
-        ensures { result ≡ placed_piece pair.entry (chars after.now) }
+    pub(crate) fn new(alloc: Global, pair: PlacedPair<'a>, after: &'a str) -> Result<Self, Error>
+        ensures placed { IfOk result (λ new. new ≡ placed_piece pair.entry (chars after.now)) }
+        ensures only { IsOkUnless result (Error.Memory alloc_error) }
     {
-        let places = pair.places;
-        SourcePair {
-            key: pair.key,
-            value: pair.value,
-            raw_key: CowStr::Borrowed(places.key),
-            separator: places.separator,
-            space_before: CowStr::Borrowed(places.space_before),
-            raw_value: CowStr::Borrowed(places.raw_value),
-            space_after: CowStr::Borrowed(places.space_after),
-            note: CowStr::Borrowed(places.note),
-            trailing_lines: CowStr::Borrowed(places.trailing_lines),
-            after: CowStr::Borrowed(after),
+        if let Some(lent) = LentPair::of_placed(&pair, after) {
+            return Ok(SourcePair {
+                form: PairForm::Lent(lent),
+            });
         }
+        SourcePair::kept(alloc, PairParts::of_placed(pair, after))
+    }
+
+    // A pair of these parts.
+    pub(crate) fn kept(alloc: Global, parts: PairParts<'a>) -> Result<Self, Error>
+        ensures kept { IfOk result (λ new. new ≡ parts.entry) }
+        ensures only { IsOkUnless result (Error.Memory alloc_error) }
+    {
+        Ok(SourcePair {
+            form: PairForm::Kept(parts.boxed(alloc)?),
+        })
     }
 
     /// The key.
     pub fn key(&self) -> &str
         ensures { str_text result ≡ self.now.key }
     {
-        self.key.as_str()
+        match &self.form {
+            PairForm::Lent(pair) => pair.key,
+            PairForm::Kept(parts) => parts.key(),
+        }
     }
 
     /// The value, without quotes and escapes.
     pub fn value(&self) -> &str
         ensures { str_text result ≡ self.now.value }
     {
-        self.value.as_str()
+        match &self.form {
+            PairForm::Lent(pair) => pair.raw_value,
+            PairForm::Kept(parts) => parts.value(),
+        }
     }
 
     // Gives the pair another key, which the policy writes between the white space that stood around the old
@@ -106,17 +105,11 @@ impl<'a> SourcePair<'a> {
         ensures only { IsOkUnless result (Error.Memory alloc_error) }
     {
         let mut raw_key = String::new(alloc);
-        push_key(
-            alloc,
-            &mut raw_key,
-            self.raw_key.as_str(),
-            key,
-            policy,
-            read,
-        )?;
+        push_key(alloc, &mut raw_key, self.raw_key(), key, policy, read)?;
         let key = String::from_str(alloc, key)?;
-        self.raw_key = CowStr::Owned(raw_key);
-        self.key = CowStr::Owned(key);
+        let mut parts = self.take_parts(alloc)?;
+        parts.put_key(raw_key, key);
+        self.put_parts(parts);
         Ok(())
     }
 
@@ -126,12 +119,12 @@ impl<'a> SourcePair<'a> {
         ensures only { IsOkUnless result (Error.Memory alloc_error) }
     {
         self.push_key(out)?;
-        push_text(out, self.space_before.as_str())?;
-        push_text(out, self.raw_value.as_str())?;
-        push_text(out, self.space_after.as_str())?;
-        push_text(out, self.note.as_str())?;
-        push_text(out, self.trailing_lines.as_str())?;
-        push_text(out, self.after.as_str())
+        push_text(out, self.space_before())?;
+        push_text(out, self.raw_value())?;
+        push_text(out, self.space_after())?;
+        push_text(out, self.note())?;
+        push_text(out, self.trailing_lines())?;
+        push_text(out, self.after())
     }
 
     // Sends the same.
@@ -143,19 +136,9 @@ impl<'a> SourcePair<'a> {
         requires { IsClear out.old }
         ensures { Sends W.contents out.old out.new lines.old lines.new result (pair_text self.now) }
     {
-        put_before(lines, self.raw_key.as_str(), self.separator, out)?;
-        put_both(
-            lines,
-            self.space_before.as_str(),
-            self.raw_value.as_str(),
-            out,
-        )?;
-        put_both(lines, self.space_after.as_str(), self.note.as_str(), out)?;
-        put_both(
-            lines,
-            self.trailing_lines.as_str(),
-            self.after.as_str(),
-            out,
-        )
+        put_before(lines, self.raw_key(), self.separator(), out)?;
+        put_both(lines, self.space_before(), self.raw_value(), out)?;
+        put_both(lines, self.space_after(), self.note(), out)?;
+        put_both(lines, self.trailing_lines(), self.after(), out)
     }
 }

@@ -104,6 +104,13 @@ impl<'a> SourceSection<'a> {
         }
     }
 
+    // Gives back the room for pairs that the section has no use for.
+    pub(crate) fn shrink(&mut self)
+        ensures { self.new ≡ self.old }
+    {
+        self.pairs.shrink_to_fit();
+    }
+
     /// The name; none is the general section's, with which a text begins.
     pub fn name(&self) -> Option<&str>
         ensures { str_name result ≡ self.now.name }

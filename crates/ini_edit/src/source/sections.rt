@@ -68,7 +68,7 @@ impl<'a> Source<'a> {
     }
 
     // The last parts of the section before the one at the index, once that is taken out.
-    fn end_without(&self, alloc: Global, index: usize, before: usize) -> Result<NewEnd, Error>
+    fn end_without(&self, alloc: Global, index: usize, before: usize) -> Result<NewEnd<'a>, Error>
         requires within { index < length self.now.sections }
         requires next { index ≡ before + 1 }
         ensures put { IfOk result (λ end. (p : Place SectionPiece) → IsPlaceAt self.now.sections p index

@@ -226,7 +226,7 @@ impl<'a> SourceSection<'a> {
         };
         let value = String::from_str(alloc, value)?;
         if self.pairs()[index].has_separator() {
-            self.put_value_at(index, raw_value, value);
+            self.put_value_at(alloc, index, raw_value, value)?;
             return Ok(());
         }
         Ok(self.put_separator_at(alloc, index, raw_value, value, read)?)

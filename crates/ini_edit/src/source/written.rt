@@ -15,6 +15,7 @@ use crate::append::push_text;
 use crate::escape::{push_escaped, push_in_quote};
 use crate::source::lines::{blanks_at_end, is_empty, split_blanks};
 use crate::source::pair::SourcePair;
+use crate::source::pair::own::PairParts;
 use ini_text::{
     Content, Error, EscapePolicy, ParseOption, Parser, PlacedElement, WriteOption, is_same_text,
     split_first,
@@ -241,7 +242,7 @@ impl<'a> NewPair<'a> {
         }
         let raw_key = if is_indented { indent } else { raw_key };
         let (trailing_lines, after) = parted(alloc, lines, gap, read)?;
-        Ok(SourcePair::of_parts(
+        let parts = PairParts::of_new(
             key,
             value,
             raw_key,
@@ -250,7 +251,8 @@ impl<'a> NewPair<'a> {
             raw_value,
             trailing_lines,
             after,
-        ))
+        );
+        SourcePair::kept(alloc, parts)
     }
 }
 

@@ -19,10 +19,11 @@ ghost use Rattle.ini_edit.specs.SourcePlaces.{last_word};
 ghost use Rattle.ini_edit.specs.Sources.{PairPiece, has_separator};
 ghost use Rattle.ini_edit.specs.SourceLines.{is_empty};
 
-use crate::append::{push, push_more, push_text};
+use crate::append::{push, push_text};
 use crate::glue::{TextEnd, text_end};
 use crate::source::lines::{after_line_end, is_empty, last_or, line_end_at_end};
 use crate::source::pair::SourcePair;
+use crate::source::pair::own::PairParts;
 use crate::source::quiet_lines::{ends_line, quiet_lines_at_end};
 use ini_text::{Error, ParseOption, front_before, is_blank, is_line_end, past_note, split_first};
 use std::alloc::Global;
@@ -39,12 +40,14 @@ pub(crate) struct PairEnd<'t> {
 
 /// A pair's last parts, once a line is put in after it, or lines are.
 #[derive(Debug, Drop)]
-pub(crate) struct NewEnd {
+pub(crate) struct NewEnd<'a> {
     /// Another source of the value, or of a key alone, where the old one ends in a backslash that would take
     /// the line end.
     pub(crate) last_word: Option<String>,
     pub(crate) trailing_lines: String,
     pub(crate) after: String,
+    /// Room for the pair's parts, where it has none.
+    pub(crate) room: Box<PairParts<'a>>,
 }
 
 impl<'a> SourcePair<'a> {
@@ -96,24 +99,27 @@ impl<'a> SourcePair<'a> {
         alloc: Global,
         line_end: &str,
         read: ParseOption,
-    ) -> Result<NewEnd, Error>
+    ) -> Result<NewEnd<'a>, Error>
         ensures ended { IfOk result (λ new. with_new_end new self.now
             ≡ with_line_ended read (chars line_end.now) self.now) }
         ensures only { IsOkUnless result (Error.Memory alloc_error) }
     {
         let (last_word, own) = self.ended_lines(alloc, line_end, read)?;
         let nothing = String::new(alloc);
+        let room = PairParts::room(alloc)?;
         if self.is_multiline(read) {
             return Ok(NewEnd {
                 last_word,
                 trailing_lines: own,
                 after: nothing,
+                room,
             });
         }
         Ok(NewEnd {
             last_word,
             trailing_lines: nothing,
             after: own,
+            room,
         })
     }
 
@@ -187,7 +193,7 @@ impl<'a> SourcePair<'a> {
         lines: &str,
         gap: &str,
         read: ParseOption,
-    ) -> Result<NewEnd, Error>
+    ) -> Result<NewEnd<'a>, Error>
         ensures put { IfOk result (λ new. with_new_end new self.now
             ≡ with_rest read (chars lines.now) (chars gap.now) self.now) }
         ensures only { IsOkUnless result (Error.Memory alloc_error) }
@@ -200,35 +206,13 @@ impl<'a> SourcePair<'a> {
             push_text(&mut after, lines)?;
         }
         push_text(&mut after, gap)?;
+        let room = PairParts::room(alloc)?;
         Ok(NewEnd {
             last_word: None,
             trailing_lines,
             after,
+            room,
         })
-    }
-
-    /// Puts lines and a gap after the pair, which stood elsewhere: a line end, and what follows it. Refused,
-    /// some of them may be there.
-    pub(crate) fn push_rest(
-        &mut self,
-        alloc: Global,
-        line_end: &str,
-        lines: &str,
-        gap: &str,
-        read: ParseOption,
-    ) -> Result<(), Error>
-        ensures pushed { OnOk result (self.new
-            ≡ with_rest read (chars line_end.now ++ chars lines.now) (chars gap.now) self.old) }
-        ensures only { IsOkUnless result (Error.Memory alloc_error) }
-    {
-        if self.is_multiline(read) && is_empty(self.after.as_str()) {
-            push_more(alloc, &mut self.trailing_lines, line_end)?;
-            push_more(alloc, &mut self.trailing_lines, lines)?;
-        } else {
-            push_more(alloc, &mut self.after, line_end)?;
-            push_more(alloc, &mut self.after, lines)?;
-        }
-        push_more(alloc, &mut self.after, gap)
     }
 
     /// Whether a multiline value would take what stands after a key alone, whose next pair is indented or
@@ -266,8 +250,10 @@ impl<'a> SourcePair<'a> {
         let key = self.closed_word(alloc, read)?;
         let note = self.note_after(alloc, read)?;
         let (trailing_lines, after) = self.end_of_value(alloc, is_taken, read)?;
-        self.put_first_value(key, raw_value, value, note);
-        self.put_end(trailing_lines, after);
+        let mut parts = self.take_parts(alloc)?;
+        parts.put_first_value(key, raw_value, value, note);
+        parts.put_end(trailing_lines, after);
+        self.put_parts(parts);
         Ok(())
     }
 
@@ -306,21 +292,6 @@ impl<'a> SourcePair<'a> {
         }
         push_text(&mut lines, to_line_feed(last_or('\n', end)))?;
         Ok((lines, after_empty_comment(alloc, "\n", gap)?))
-    }
-
-    /// Puts the new last parts in.
-    pub(crate) fn put_new_end(&mut self, end: NewEnd)
-        ensures { self.new ≡ with_new_end end self.old }
-    {
-        let NewEnd {
-            last_word,
-            trailing_lines,
-            after,
-        } = end;
-        if let Some(word) = last_word {
-            self.put_last_word(word);
-        }
-        self.put_end(trailing_lines, after);
     }
 }
 

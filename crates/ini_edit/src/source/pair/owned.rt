@@ -3,6 +3,7 @@ ghost use Rattle.std.specs.Prelude.{◌≡◌, IfOk, IsOkUnless, alloc_error, ch
 ghost use Rattle.ini_text.specs.Parsing.Items.{cow_text};
 
 use crate::source::pair::SourcePair;
+use crate::source::pair::own::PairParts;
 use ini_text::{Error, is_same_text};
 use std::alloc::Global;
 use std::borrow::CowStr;
@@ -27,17 +28,18 @@ impl<'a> SourcePair<'a> {
         ensures owned { IfOk result (λ copy. copy ≡ self.now) }
         ensures only { IsOkUnless result (Error.Memory alloc_error) }
     {
-        Ok(SourcePair {
-            key: owned_text(alloc, self.key.as_str())?,
-            value: owned_text(alloc, self.value.as_str())?,
-            raw_key: owned_text(alloc, self.raw_key.as_str())?,
-            separator: self.separator,
-            space_before: owned_text(alloc, self.space_before.as_str())?,
-            raw_value: owned_text(alloc, self.raw_value.as_str())?,
-            space_after: owned_text(alloc, self.space_after.as_str())?,
-            note: owned_text(alloc, self.note.as_str())?,
-            trailing_lines: owned_text(alloc, self.trailing_lines.as_str())?,
-            after: owned_text(alloc, self.after.as_str())?,
-        })
+        let parts = PairParts {
+            key: owned_text(alloc, self.key())?,
+            value: owned_text(alloc, self.value())?,
+            raw_key: owned_text(alloc, self.raw_key())?,
+            separator: self.separator(),
+            space_before: owned_text(alloc, self.space_before())?,
+            raw_value: owned_text(alloc, self.raw_value())?,
+            space_after: owned_text(alloc, self.space_after())?,
+            note: owned_text(alloc, self.note())?,
+            trailing_lines: owned_text(alloc, self.trailing_lines())?,
+            after: owned_text(alloc, self.after())?,
+        };
+        SourcePair::kept(alloc, parts)
     }
 }

@@ -20,6 +20,7 @@ use crate::append::{push, push_text};
 use crate::source::lines::{comments_at_end, is_empty, last_or};
 use crate::source::pair::SourcePair;
 use crate::source::pair::ends::NewEnd;
+use crate::source::pair::own::PairParts;
 use crate::source::section::SourceSection;
 use ini_text::{Error, LineSeparator, ParseOption, front_before, is_same_text, split_first};
 use std::alloc::Global;
@@ -45,7 +46,7 @@ impl<'a> SourceSection<'a> {
         comments: &str,
         end: LineSeparator,
         read: ParseOption,
-    ) -> Result<Option<NewEnd>, Error>
+    ) -> Result<Option<NewEnd<'a>>, Error>
         requires { index < length self.now.pairs }
         ensures put { (p : Place PairPiece) → IsPlaceAt self.now.pairs p index
             → IfOk result (λ new. MatchOption new
@@ -94,7 +95,7 @@ impl<'a> SourceSection<'a> {
         comments: &str,
         end: LineSeparator,
         read: ParseOption,
-    ) -> Result<NewEnd, Error>
+    ) -> Result<NewEnd<'a>, Error>
         requires { index ≤ length self.now.pairs }
         ensures put { IfOk result (λ new. (after : List PairPiece)
             → end_put new self.now (take index self.now.pairs) after
@@ -111,10 +112,12 @@ impl<'a> SourceSection<'a> {
         }
         push_text(&mut after, comments)?;
         push_text(&mut after, line_end_lacking(comments, end))?;
+        let room = PairParts::room(alloc)?;
         Ok(NewEnd {
             last_word: None,
             trailing_lines,
             after,
+            room,
         })
     }
 

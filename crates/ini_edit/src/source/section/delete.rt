@@ -50,7 +50,7 @@ impl<'a> SourceSection<'a> {
         front: char,
         index: usize,
         read: ParseOption,
-    ) -> Result<NewEnd, Error>
+    ) -> Result<NewEnd<'a>, Error>
         requires { index < length self.now.pairs }
         ensures put { (p : Place PairPiece) → IsPlaceAt self.now.pairs p index → IfOk result (λ new.
             end_put new self.now p.before p.after ≡ pair_taken_out read front self.now p) }
@@ -106,7 +106,7 @@ impl<'a> SourceSection<'a> {
                 }
                 left -= 1;
             }
-            new.push(pair.copy()?)?;
+            new.push(pair.copy(alloc)?)?;
         }
         Ok(new)
     }

@@ -26,6 +26,7 @@ use crate::source::lines::{
     line_end_at_end,
 };
 use crate::source::pair::ends::NewEnd;
+use crate::source::pair::own::PairParts;
 use crate::source::place::cut_after;
 use crate::source::section::SourceSection;
 use crate::text::begins_with_comment;
@@ -124,7 +125,7 @@ impl<'a> SourceSection<'a> {
         rest: &str,
         end: &str,
         read: ParseOption,
-    ) -> Result<NewEnd, Error>
+    ) -> Result<NewEnd<'a>, Error>
         ensures put { IfOk result (λ new. end_put_last new self.now
             ≡ with_rest_of_next read front self.now (chars end.now) (chars rest.now)) }
         ensures only { IsOkUnless result (Error.Memory alloc_error) }
@@ -169,7 +170,7 @@ impl<'a> SourceSection<'a> {
         lines: &str,
         rest: &str,
         read: ParseOption,
-    ) -> Result<NewEnd, Error>
+    ) -> Result<NewEnd<'a>, Error>
         ensures kept { IfOk result (IsKept read (chars kept.now) (chars lines.now) (chars rest.now)
             self.now.pairs) }
         ensures only { IsOkUnless result (Error.Memory alloc_error) }
@@ -182,10 +183,12 @@ impl<'a> SourceSection<'a> {
             push_text(&mut after, lines)?;
         }
         push_text(&mut after, rest)?;
+        let room = PairParts::room(alloc)?;
         Ok(NewEnd {
             last_word: None,
             trailing_lines,
             after,
+            room,
         })
     }
 
@@ -197,7 +200,7 @@ impl<'a> SourceSection<'a> {
         before: &str,
         end: LineSeparator,
         read: ParseOption,
-    ) -> Result<NewEnd, Error>
+    ) -> Result<NewEnd<'a>, Error>
         ensures ended { IfOk result (λ new. (after : Text) → last_gap self.now ≡ chars before.now ++ after
             → end_put_last new self.now ≡ ended_for_section read (line_end end) self.now after) }
         ensures only { IsOkUnless result (Error.Memory alloc_error) }
@@ -211,12 +214,14 @@ impl<'a> SourceSection<'a> {
             last_word: none,
             trailing_lines,
             after,
+            room,
         } = kept;
         drop(none);
         Ok(NewEnd {
             last_word,
             trailing_lines,
             after,
+            room,
         })
     }
 

@@ -19,6 +19,7 @@ use crate::error::EditError;
 use crate::source::lines::{comments_at_end, is_empty, last_or};
 use crate::source::pair::SourcePair;
 use crate::source::pair::ends::{NewEnd, PairEnd, after_empty_comment};
+use crate::source::pair::own::PairParts;
 use crate::source::place::{GapPlace, place_for_first};
 use crate::source::section::SourceSection;
 use crate::source::written::{NewPair, is_indented};
@@ -170,10 +171,12 @@ impl<'a> SourceSection<'a> {
         let lines = ended(alloc, end.as_str(), "")?;
         let is_indented = may_be_indented(read, index, kept);
         let pair = pair.before(alloc, is_indented, lines, comments, read)?;
+        let room = PairParts::room(alloc)?;
         let new = NewEnd {
             last_word: None,
             trailing_lines,
             after,
+            room,
         };
         self.pairs.insert(index, pair).map_err(AllocError::from)?;
         self.put_new_end(index, new);

@@ -18,6 +18,7 @@ use crate::append::{push_more, push_text};
 use crate::source::lines::{LineEndSearch, is_empty, last_or};
 use crate::source::pair::SourcePair;
 use crate::source::pair::ends::NewEnd;
+use crate::source::pair::own::PairParts;
 use crate::source::section::SourceSection;
 use crate::source::written::{PairStyle, is_indented};
 use ini_text::{Error, ParseOption, is_line_end, is_same_text};
@@ -59,12 +60,21 @@ impl<'a> SourceSection<'a> {
         self.after.as_str()
     }
 
-    pub(crate) fn put_value_at(&mut self, index: usize, raw_value: String, value: String)
+    /// Another value of the pair at the index. Refused, the section stays.
+    pub(crate) fn put_value_at(
+        &mut self,
+        alloc: Global,
+        index: usize,
+        raw_value: String,
+        value: String,
+    ) -> Result<(), Error>
         requires { index < length self.old.pairs }
-        ensures { (d : PairPiece) → self.new ≡ with_pairs self.old (set self.old.pairs index
-            (with_value (string_text raw_value) (string_text value) (get_or self.old.pairs index d))) }
+        ensures put { (d : PairPiece) → OnOk result (self.new ≡ with_pairs self.old (set self.old.pairs index
+            (with_value (string_text raw_value) (string_text value) (get_or self.old.pairs index d)))) }
+        ensures unchanged { OnErr result (self.new ≡ self.old) }
+        ensures only { IsOkUnless result (Error.Memory alloc_error) }
     {
-        self.pairs[index].put_value(raw_value, value);
+        self.pairs[index].put_value(alloc, raw_value, value)
     }
 
     /// Puts a separator after the key alone at the index, and this value after that. Refused, the section
@@ -192,7 +202,7 @@ impl<'a> SourceSection<'a> {
         lines: &str,
         gap: &str,
         read: ParseOption,
-    ) -> Result<NewEnd, Error>
+    ) -> Result<NewEnd<'a>, Error>
         requires { index ≤ length self.now.pairs }
         ensures put { IfOk result (λ new. (after : List PairPiece)
             → end_put new self.now (take index self.now.pairs) after
@@ -205,10 +215,12 @@ impl<'a> SourceSection<'a> {
         let mut after = String::from_str(alloc, self.after())?;
         push_text(&mut after, lines)?;
         push_text(&mut after, gap)?;
+        let room = PairParts::room(alloc)?;
         Ok(NewEnd {
             last_word: None,
             trailing_lines: String::new(alloc),
             after,
+            room,
         })
     }
 
@@ -235,9 +247,9 @@ impl<'a> SourceSection<'a> {
     }
 
     /// Puts the new end after the pair before the index, or after the header.
-    pub(crate) fn put_new_end(&mut self, index: usize, end: NewEnd)
+    pub(crate) fn put_new_end(&mut self, index: usize, end: NewEnd<'a>)
         requires { index ≤ length self.old.pairs }
-        ensures { self.new ≡ end_put_at end index self.old }
+        ensures { self.new ≡ end_put_at end.entry index self.old }
     {
         match index.checked_sub(1) {
             Some(before) => self.pairs[before].put_new_end(end),
@@ -246,9 +258,11 @@ impl<'a> SourceSection<'a> {
                     last_word,
                     trailing_lines,
                     after,
+                    room,
                 } = end;
                 drop(last_word);
                 drop(trailing_lines);
+                drop(room);
                 self.put_after(after);
             }
         }
@@ -330,7 +344,7 @@ fn copy_pairs<'a>(alloc: Global, pairs: &[SourcePair<'a>]) -> Result<Vec<SourceP
 {
     let mut copy = Vec::with_capacity(alloc, pairs.len())?;
     for pair in pairs {
-        copy.push(pair.copy()?).map_err(AllocError::from)?;
+        copy.push(pair.copy(alloc)?).map_err(AllocError::from)?;
     }
     Ok(copy)
 }

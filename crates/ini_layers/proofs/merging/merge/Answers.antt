@@ -1,12 +1,10 @@
-use Rattle.std.proofs.Common.{◌≡◌, arith, map, subst}
+use Rattle.std.proofs.Common.{◌≡◌, arith, subst}
 use Rattle.ini_edit.specs.Sources.{document_in}
 use Rattle.ini_dialect.specs.Flattened.{flattened}
-use Rattle.ini_layers.specs.Differences.{setting_change}
-use Rattle.ini_layers.specs.Merging.{taken_under}
+use Rattle.ini_layers.specs.Merging.{flat_sides, taken_changes, taken_under}
 use Rattle.ini_layers.specs.SourceChanges.{AreMade}
-use Rattle.ini_layers.proofs.MadeLemmas.{made-values, none_made}
-use Rattle.ini_layers.proofs.MergeLemmas.{made-nothing, merged-from_base, taken-alike, taken-merged}
-use Rattle.ini_layers.proofs.MergeLemmas.{taken-none}
+use Rattle.ini_layers.proofs.MadeLemmas.{none_made}
+use Rattle.ini_layers.proofs.MergeLemmas.{made-nothing, merged-from_base, taken-alike, taken-none}
 use Rattle.ini_layers.proofs.ToldLemmas.{alike-flat}
 use Rattle.ini_layers.proofs.merging.merge.Goals as goal
 
@@ -16,23 +14,16 @@ returns-in-Err-clause-refused c =
     (none_made c.args.rule c.args.write.now (taken_under c.args.rule c.args.side c.args.base.now
     c.args.ours.now (document_in c.args.theirs.now)) c.args.theirs.now)
 
-pub returns-in-Err-taken-clause-refused : goal.returns-in-Err-taken-clause-refused
-returns-in-Err-taken-clause-refused c =
-    rw (c.refused_at-in-Err-taken.ensures, c.into-in-Err-taken.ensures, c.in-Err-taken.ensures.only_memory)
-    (none_made c.args.rule c.args.write.now (taken_under c.args.rule c.args.side c.args.base.now
-    c.args.ours.now (document_in c.args.theirs.now)) c.args.theirs.now)
-
 pub returns-clause-made : goal.returns-clause-made
 returns-clause-made c =
-    let is : map setting_change c.as_slice.result.now ≡ taken_under c.args.rule c.args.side c.args.base.now
-    c.args.ours.now (document_in c.args.theirs.now) = grind arith in
-    subst (λ cs. AreMade c.args.rule c.args.write.now c.args.theirs.now cs c.in_ok-new.new) is
-    c.in_ok-new.ensures.made
+    let is : c.in-Ok.sides ≡ flat_sides c.args.rule c.args.base.now c.args.ours.now
+    (document_in c.args.theirs.now) = grind arith in
+    subst (λ s. AreMade c.args.rule c.args.write.now c.args.theirs.now
+    (taken_changes c.args.side s.base s.ours s.theirs) c.in_ok-new.new) is c.in_ok-new.ensures.made
 
 pub returns-clause-merged : goal.returns-clause-merged
 returns-clause-merged c =
-    taken-merged c.args.rule c.args.side c.args.base.now c.args.ours.now (document_in c.args.theirs.now) _
-    (made-values c.args.rule c.args.write.now (returns-clause-made c))
+    c.in_ok-new.ensures.merged c.args.base.now c.args.ours.now (grind arith)
 
 pub returns-clause-ours_is_base : goal.returns-clause-ours_is_base
 returns-clause-ours_is_base c = λ agree.

@@ -9,7 +9,7 @@ use Rattle.ini_edit.proofs.SourceReadLemmas.{reads_within, sections_header, sect
 use Rattle.ini_edit.proofs.SourceReadLemmas.{sections_start, with_pair}
 use Rattle.ini_edit.proofs.SpanLemmas.{sections_load}
 use Rattle.ini_edit.proofs.source.Source.read_owned.Goals.{in-Header+in_ok-push_owned-in-Header, in-Nothing}
-use Rattle.ini_edit.proofs.source.Source.read_owned.Goals.{in-Pair+in_ok-push-in-Pair}
+use Rattle.ini_edit.proofs.source.Source.read_owned.Goals.{in-Pair+in_ok-new-in-Pair+in_ok-push-in-Pair}
 use Rattle.ini_edit.proofs.source.Source.read_owned.Goals as goal
 
 pub reach_item-requires : goal.reach_item-requires
@@ -39,10 +39,11 @@ items-preserved c =
           (ap gives w.in-Header.is)
           (ap (λ l. l ++ w.new-section.result ∷ []) w.in_ok-push_owned-in-Header.ensures.pushed
           ∙ ap (λ t. (ss ++ s ∷ []) ++ t ∷ []) w.new-section.ensures)).0)
-      | in-Pair+in_ok-push-in-Pair w ↦
+      | in-Pair+in_ok-new-in-Pair+in_ok-push-in-Pair w ↦
           rw (w.sections-is, w.section-is) ((sections_pair at c.in-Some.is next w.in-Pair.pair
           w.in-Pair.is ss s refl
-          (ap (λ t. ss ++ t ∷ []) (w.in_ok-push-in-Pair.ensures.pushed ∙ ap (with_pair s) w.new.ensures))).0)
+          (ap (λ t. ss ++ t ∷ []) (w.in_ok-push-in-Pair.ensures.pushed
+          ∙ ap (with_pair s) w.in_ok-new-in-Pair.ensures.placed))).0)
     ]
 
 pub items-smaller : goal.items-smaller
@@ -59,10 +60,11 @@ items-smaller c =
           (ap gives w.in-Header.is)
           (ap (λ l. l ++ w.new-section.result ∷ []) w.in_ok-push_owned-in-Header.ensures.pushed
           ∙ ap (λ t. (ss ++ s ∷ []) ++ t ∷ []) w.new-section.ensures)).1)
-      | in-Pair+in_ok-push-in-Pair w ↦
+      | in-Pair+in_ok-new-in-Pair+in_ok-push-in-Pair w ↦
           rw (w.sections-is, w.section-is) ((sections_pair at c.in-Some.is next w.in-Pair.pair
           w.in-Pair.is ss s refl
-          (ap (λ t. ss ++ t ∷ []) (w.in_ok-push-in-Pair.ensures.pushed ∙ ap (with_pair s) w.new.ensures))).1)
+          (ap (λ t. ss ++ t ∷ []) (w.in_ok-push-in-Pair.ensures.pushed
+          ∙ ap (with_pair s) w.in_ok-new-in-Pair.ensures.placed))).1)
     ]
 
 pub returns-clause-text : goal.returns-clause-text

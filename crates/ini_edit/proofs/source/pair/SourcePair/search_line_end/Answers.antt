@@ -6,9 +6,8 @@ use Rattle.ini_edit.proofs.source.pair.SourcePair.search_line_end.Goals as goal
 
 pub returns : goal.returns
 returns c = λ front searched.
-    let view = c.self.view_is in
     subst (λ t. IsSearched t c.after-7.result)
-    (search_parts front c.args.self.now c.raw_key.ensures (ap (λ p. separator_text p.stretches.separator) view)
+    (search_parts front c.args.self.now c.raw_key.ensures (ap separator_text c.separator.ensures)
     c.space_before.ensures c.raw_value.ensures c.space_after.ensures c.note.ensures
     c.trailing_lines.ensures c.after-6.ensures)
     (c.after-7.ensures _ (c.after-5.ensures _ (c.after-4.ensures _ (c.after-3.ensures _

@@ -54,5 +54,6 @@ returns-clause-put c =
       last_word = None;
       trailing_lines = c.if-takes_lines_at.trailing_lines;
       after = c.push_text-3.new.out;
+      room = c.in_ok-room.room;
     } in
     put_is o kept lines rest s before new taken c.takes_lines_at.ensures refl trailing last

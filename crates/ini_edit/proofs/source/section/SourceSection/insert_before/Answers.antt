@@ -42,6 +42,7 @@ returns-clause-put c = λ p at.
       last_word = None;
       trailing_lines = c.in_ok-trailing_lines.trailing_lines;
       after = c.in_ok-after.after;
+      room = c.in_ok-room.room;
     } in
     let pairs = ap (λ s. s.pairs) c.self.view_is in
     let put : c.insert.new.self.items ≡ insert s.pairs c.args.index new =

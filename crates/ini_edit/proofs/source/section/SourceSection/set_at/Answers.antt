@@ -17,7 +17,7 @@ returns-then-has_separator-clause-set c = λ p at.
     ∙ c.if-has_separator.true in
     let written = rw c.in-Some.is at (c.in_ok-raw_value.ensures.written p at) in
     set_here c.args.self.now at has written.0 written.1 (ap chars c.in_ok-value.ensures.ok)
-    (c.put_value_at.ensures p.here)
+    (c.in_ok-put_value_at.ensures.put p.here)
 
 pub returns-clause-set : goal.returns-clause-set
 returns-clause-set c = λ p at.

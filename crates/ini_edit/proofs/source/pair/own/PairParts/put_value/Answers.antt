@@ -6,14 +6,14 @@ use Rattle.ini_text.specs.Parsing.Items.{cow_text, string_text}
 use Rattle.ini_edit.specs.SourceEdits.{note_beside, space_beside}
 use Rattle.ini_edit.specs.SourceLines.{is_empty}
 use Rattle.ini_edit.specs.Sources.{PairPiece}
-use Rattle.ini_edit.specs.declared.source.pair.SourcePair.TheInside.{Inside}
+use Rattle.ini_edit.specs.declared.source.pair.own.PairParts.TheInside.{Inside}
 use Rattle.ini_edit.proofs.CharsLemmas.{chars-space}
-use Rattle.ini_edit.proofs.source.pair.SourcePair.put_value.Goals as goal
-use Rattle.ini_edit.proofs.source.pair.SourcePair.put_value.Goals.{else-is_empty, else-needs_space}
-use Rattle.ini_edit.proofs.source.pair.SourcePair.put_value.Goals.{then-is_empty+in-Borrowed-1}
-use Rattle.ini_edit.proofs.source.pair.SourcePair.put_value.Goals.{then-is_empty+in-Owned-1}
-use Rattle.ini_edit.proofs.source.pair.SourcePair.put_value.Goals.{then-needs_space+in-Borrowed-1}
-use Rattle.ini_edit.proofs.source.pair.SourcePair.put_value.Goals.{then-needs_space+in-Owned-1}
+use Rattle.ini_edit.proofs.source.pair.own.PairParts.put_value.Goals as goal
+use Rattle.ini_edit.proofs.source.pair.own.PairParts.put_value.Goals.{else-is_empty, else-needs_space}
+use Rattle.ini_edit.proofs.source.pair.own.PairParts.put_value.Goals.{then-is_empty+in-Borrowed-1}
+use Rattle.ini_edit.proofs.source.pair.own.PairParts.put_value.Goals.{then-is_empty+in-Owned-1}
+use Rattle.ini_edit.proofs.source.pair.own.PairParts.put_value.Goals.{then-needs_space+in-Borrowed-1}
+use Rattle.ini_edit.proofs.source.pair.own.PairParts.put_value.Goals.{then-needs_space+in-Owned-1}
 
 -- a note stays beside a source that isn't empty
 stays : (none : Bool) (note : Text) → not (is_empty (if none then [] else note)) ≡ (not none && not (is_empty note))

@@ -3,7 +3,7 @@ use Rattle.std.proofs.lemmas.Str.{chars-nil}
 use Rattle.ini.specs.Texts.{Text}
 use Rattle.ini_text.specs.Parsing.Items.{cow_text, string_text}
 use Rattle.ini_edit.specs.Sources.{PairPiece}
-use Rattle.ini_edit.proofs.source.pair.SourcePair.of_parts.Goals as goal
+use Rattle.ini_edit.proofs.source.pair.own.PairParts.of_new.Goals as goal
 
 pub returns : goal.returns
 returns c =

@@ -6,10 +6,10 @@ use Rattle.ini_text.specs.Parsing.Items.{cow_text, string_text}
 use Rattle.ini_edit.specs.Inside.SourceEnds.{word_of}
 use Rattle.ini_edit.specs.SourceLines.{is_empty}
 use Rattle.ini_edit.specs.Sources.{PairPiece}
-use Rattle.ini_edit.specs.declared.source.pair.SourcePair.TheInside.{Inside}
-use Rattle.ini_edit.proofs.source.pair.SourcePair.put_first_value.Goals as goal
-use Rattle.ini_edit.proofs.source.pair.SourcePair.put_first_value.Goals.{in-Some+in-Owned-1}
-use Rattle.ini_edit.proofs.source.pair.SourcePair.put_first_value.Goals.{in-Some+in-Borrowed-1, in_default}
+use Rattle.ini_edit.specs.declared.source.pair.own.PairParts.TheInside.{Inside}
+use Rattle.ini_edit.proofs.source.pair.own.PairParts.put_first_value.Goals as goal
+use Rattle.ini_edit.proofs.source.pair.own.PairParts.put_first_value.Goals.{in-Some+in-Owned-1}
+use Rattle.ini_edit.proofs.source.pair.own.PairParts.put_first_value.Goals.{in-Some+in-Borrowed-1, in_default}
 
 pub returns : goal.returns
 returns c =
