@@ -34,7 +34,7 @@ def cited(path, text):
     for crate, file, names, alias in USE.findall(text):
         if crate == own:
             continue
-        listed = names.replace("\n", " ").split(",") if names else re.findall(rf"\b{re.escape(alias)}\.(\S+?)(?=[\s(){{}},]|$)", text)
+        listed = names.replace("\n", " ").split(",") if names else re.findall(rf"\b{re.escape(alias)}\.(\S+?)(?=[\s(){{}},;]|$)", text)
         listed = [it.split(" as ")[0].strip() for it in listed if it.strip()]
         if not listed:
             sys.exit(f"lemmas.py: {path.relative_to(TOP)}: nothing is named of {crate}.{file}")

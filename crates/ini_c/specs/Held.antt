@@ -5,6 +5,7 @@ use Rattle.ini.specs.Documents.{Document as IniDocument}
 use Rattle.ini_c.specs.declared.document.Document.{Document}
 use Rattle.ini_c.specs.declared.document.Kept.{Kept}
 use Rattle.ini_c.specs.declared.document.Text.{Text}
+use Rattle.ini_c.specs.declared.tied.Tied.{Tied}
 use Rattle.ini_edit.specs.Sources.{Pieces, document_in as document_in_pieces}
 
 abbrev pub kept_if : Bool → Kept → Option IniDocument
@@ -15,8 +16,12 @@ kept_if false kept = None
 abbrev pub document_in : Document → Option IniDocument
 document_in d = kept_if d.is_open d.handle.value
 
+-- the pieces of the text that is kept, if one is
+abbrev pub pieces_kept : Kept → Option Pieces
+pieces_kept kept = option_map (λ (t : Tied). t.value) kept.text
+
 abbrev pub opened_if : Bool → Kept → Option Pieces
-opened_if true kept = Some kept.text
+opened_if true kept = pieces_kept kept
 opened_if false kept = None
 
 -- the pieces of the text that is open, if one is, and the document that they mean

@@ -1,4 +1,10 @@
+pub mod Both
+pub mod Finding
 pub mod Gathered
+pub mod Lending
 pub mod Lent
+pub mod MadeChanges
+pub mod Opening
 pub mod Ownership
 pub mod Taken
+pub mod Tying

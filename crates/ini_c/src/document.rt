@@ -2,31 +2,15 @@
 ghost use Rattle.std.specs.Prelude.{◌≡◌};
 
 use crate::handle::Handle;
+use crate::tied::Tied;
 use ini::Ini;
-use ini_edit::Source;
-use std::marker::Model;
 
-/// What a handle keeps: a document, beside the pieces of no text, or the pieces of a text, beside a document
-/// without pairs. The pieces borrow nothing.
+/// What a handle keeps: a document, beside no text, or a text and its pieces, beside a document without
+/// pairs.
 #[derive(Drop)]
 pub struct Kept {
     pub document: Ini,
-    pub text: OwnPieces,
-}
-
-/// The pieces of a text, which borrow nothing. They stand apart so that the document beside them may be lent
-/// for writing.
-#[derive(Drop)]
-pub struct OwnPieces {
-    pub(crate) pieces: Source<'static>,
-}
-
-impl Model for OwnPieces {
-    ghost use Rattle.ini_edit.specs.Sources.{Pieces};
-
-    ghost Value = { Pieces };
-
-    ghost view = { λ p. p.pieces };
+    pub text: Option<Tied>,
 }
 
 /// A document that stays loaded between calls, or none.

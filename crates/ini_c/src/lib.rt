@@ -41,6 +41,7 @@ mod text_edits;
 mod text_keeping;
 mod text_renames;
 mod text_sections;
+mod tied;
 mod walks;
 mod writing;
 

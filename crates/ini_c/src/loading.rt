@@ -1,17 +1,16 @@
 //! Loading: bytes in, a document kept, or a fault reported. This file knows no character.
-ghost use Rattle.std.specs.Prelude.{◌≡◌, ◌∷◌, [], ◌↔◌, IsTrue, IsSomeAnd, IfOk, IsOkUnless, alloc_error};
+ghost use Rattle.std.specs.Prelude.{◌≡◌, ◌∷◌, [], ◌↔◌, IsTrue, IsSomeAnd, IfOk};
 ghost use Rattle.std.specs.Str.{IsUtf8, chars};
 ghost use Rattle.ini.specs.Loading.{IsDocumentOf, IsStopOf, IfParse, IsNotUtf8};
 ghost use Rattle.ini_c.specs.Faults.{IsStopAt};
 ghost use Rattle.ini_c.specs.Held.{document_in};
 ghost use Rattle.ini_c.specs.Statuses.{broken, is_among, no_memory, not_utf8, ok};
 
-use crate::document::{Document, Kept, OwnPieces};
+use crate::document::{Document, Kept};
 use crate::fault::{Fault, tell};
 use crate::{BROKEN, NO_MEMORY, NOT_UTF8, OK};
 use ini::{Error, Ini, ParseOption};
-use ini_edit::Source;
-use std::alloc::{AllocError, Global};
+use std::alloc::Global;
 
 // The document of bytes, in a box.
 fn load(alloc: Global, bytes: &[u8], read: ParseOption) -> Result<Box<Kept>, Error>
@@ -25,20 +24,14 @@ fn load(alloc: Global, bytes: &[u8], read: ParseOption) -> Result<Box<Kept>, Err
         return Err(Error::NotUtf8);
     };
     let document = Ini::load_from_str_opt(alloc, text, read)?;
-    let pieces = no_text(alloc, read)?;
-    let text = OwnPieces { pieces };
-    let kept = Box::new(alloc, Kept { document, text })?;
+    let kept = Box::new(
+        alloc,
+        Kept {
+            document,
+            text: None,
+        },
+    )?;
     Ok(kept)
-}
-
-// The pieces of no text.
-fn no_text(alloc: Global, read: ParseOption) -> Result<Source<'static>, Error>
-    ensures { IsOkUnless result (Error.Memory alloc_error) }
-{
-    match Source::read(alloc, "", read) {
-        Ok(source) => Ok(source),
-        Err(_) => Err(Error::Memory(AllocError)),
-    }
 }
 
 // Loads the document of bytes in place of the one that is there, or tells C of the fault.

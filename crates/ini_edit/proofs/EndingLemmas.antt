@@ -1,6 +1,6 @@
 -- How texts end: after a row of pieces, a line of a value, and a line end.
 use Rattle.std.proofs.Common.{◌≡◌, ◌≢◌, ℕ, Bool, true, false, ◌||◌, eqb, List, [], ◌∷◌, ◌++◌, refl, sym, ap}
-use Rattle.std.proofs.Common.{◌∙◌, subst, append_assoc, append-nil, Some, eqb-true, if◌then◌else◌}
+use Rattle.std.proofs.Common.{◌∙◌, subst, append_assoc, Some, eqb-true, if◌then◌else◌}
 use Rattle.std.proofs.lemmas.Option.{cond_some}
 use Rattle.std.proofs.lemmas.Bool.{and_left, and_parts, cond-true, false≢true, false_from_ne_true}
 use Rattle.std.specs.Char.{is_digit}

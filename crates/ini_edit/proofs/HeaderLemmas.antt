@@ -1,10 +1,10 @@
 -- Headers: what begins with one; one before a line end; and one under another name, read where the old was.
 use Rattle.std.proofs.Common.{◌≡◌, ◌≢◌, ◌∙◌, ◌==◌, ◌&&◌, ◌||◌, ℕ, Bool, true, false, [], ◌∷◌, ◌++◌, ap}
 use Rattle.std.proofs.Common.{append_assoc, append-nil, refl, subst, sym}
-use Rattle.std.proofs.lemmas.Bool.{and_from, and_left, and_parts, both_ways, cond-false, cond-true}
-use Rattle.std.proofs.lemmas.Bool.{false≢true, true≢false}
+use Rattle.std.proofs.lemmas.Bool.{and_from, and_left, and_parts, cond-false, cond-true}
+use Rattle.std.proofs.lemmas.Bool.{false≢true}
 use Rattle.std.specs.List.{list_all}
-use Rattle.ini_text.specs.Options.Backslashes.{Backslash, begins_escape}
+use Rattle.ini_text.specs.Options.Backslashes.{begins_escape}
 use Rattle.ini_text.specs.Options.ReadOptions.{backslash_of}
 use Rattle.ini_text.specs.declared.option.ParseOption.{ParseOption}
 use Rattle.ini_text.specs.declared.write.policy.EscapePolicy.{EscapePolicy}
@@ -13,10 +13,10 @@ use Rattle.ini_text.specs.Grammar.CharacterKinds.{BeginsWith, begins, carriage_r
 use Rattle.ini_text.specs.Grammar.CharacterKinds.{is_blank}
 use Rattle.ini_text.specs.Grammar.CharacterKinds.{is_comment_mark, is_inline_white, is_line_end, line_feed}
 use Rattle.ini_text.specs.Grammar.CharacterKinds.{open_bracket}
-use Rattle.ini_text.specs.Grammar.Elements.{Header, Element, IsBracketed}
+use Rattle.ini_text.specs.Grammar.Elements.{Header, Element}
 use Rattle.ini_text.specs.Grammar.Positions.{last_or}
 use Rattle.ini_text.specs.Grammar.Strings.{Closes, Ends, Row, Str, bracketed_name_ends, is_before_note}
-use Rattle.ini_text.specs.Grammar.Strings.{is_endpoint, noted, plain_ends}
+use Rattle.ini_text.specs.Grammar.Strings.{noted, plain_ends}
 use Rattle.ini_text.specs.Laws.Plain.{IsPlainName}
 use Rattle.ini_text.proofs.LawLemmas.OneAheadLemmas.{Alike, Str-alike}
 use Rattle.ini_text.proofs.PlainLemmas.EscapedTextLemmas.{all_read, row_escaped}

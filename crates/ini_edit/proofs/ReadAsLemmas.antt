@@ -1,7 +1,7 @@
 -- A value that is read back from a line of its own is read so in a pair's place too: between white space,
 -- before what is kept after it.
-use Rattle.std.proofs.Common.{◌≡◌, ◌≢◌, ◌∙◌, ℕ, Bool, true, false, [], ◌∷◌, ◌++◌, append-nil, append_assoc}
-use Rattle.std.proofs.Common.{None, Option, Some, ap, arith, inl, inr, length, length-append, refl, subst}
+use Rattle.std.proofs.Common.{◌≡◌, ◌≢◌, ◌∙◌, ℕ, true, false, [], ◌∷◌, ◌++◌, append-nil, append_assoc}
+use Rattle.std.proofs.Common.{None, Some, ap, arith, inl, inr, length, length-append, refl, subst}
 use Rattle.std.proofs.Common.{subst₂, sym}
 use Rattle.std.proofs.lemmas.Bool.{and_parts, both_ways, cases_Bool}
 use Rattle.std.specs.List.{list_all}

@@ -1,5 +1,6 @@
 pub mod CommentStates
 pub mod InPlace
+pub mod KeptPieces
 pub mod KeyEdges
 pub mod Lines
 pub mod PairForms

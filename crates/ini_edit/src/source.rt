@@ -36,7 +36,6 @@ mod gap;
 pub(crate) mod layout;
 pub(crate) mod lines;
 mod list;
-mod owned;
 pub(crate) mod pair;
 mod place;
 mod quiet_lines;

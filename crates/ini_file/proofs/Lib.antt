@@ -11,6 +11,7 @@ pub mod ListedLemmas
 pub mod MergeLemmas
 pub mod OriginLemmas
 pub mod PlacedLemmas
+pub mod PlainDifferenceLemmas
 pub mod RefusedLemmas
 pub mod RuledMergeLemmas
 pub mod ShareLemmas

@@ -54,7 +54,8 @@ pub fn compare(
     }
 }
 
-// A line for each setting that differs between two documents.
+// A line for each setting that differs between two documents, which are copied but for the default rule.
+#[tactic(auto, using(crate::proofs::PlainDifferenceLemmas::own_difference))]
 fn difference_lines(
     alloc: Global,
     rule: Lookup,
@@ -66,13 +67,29 @@ fn difference_lines(
     ensures { IfOk result (λ lines. AreLinesOf form is_colored
         (difference (flattened rule from.now) (flattened rule to.now)) lines.items) }
 {
+    if rule.is_own() {
+        return lines_between(alloc, form, is_colored, from, to);
+    }
     let Ok(from) = rule.flattened(alloc, AnyDocument::Ini(from)) else {
         return Err(AllocError);
     };
     let Ok(to) = rule.flattened(alloc, AnyDocument::Ini(to)) else {
         return Err(AllocError);
     };
-    let Ok(changes) = diff(alloc, &from, &to) else {
+    lines_between(alloc, form, is_colored, &from, &to)
+}
+
+// The same of documents in which the first section and the first value count, as in flattened ones.
+fn lines_between(
+    alloc: Global,
+    form: AnswerForm,
+    is_colored: bool,
+    from: &Ini,
+    to: &Ini,
+) -> Result<Vec<u8>, AllocError>
+    ensures { IfOk result (λ lines. AreLinesOf form is_colored (difference from.now to.now) lines.items) }
+{
+    let Ok(changes) = diff(alloc, from, to) else {
         return Err(AllocError);
     };
     let changes = changes.as_slice();

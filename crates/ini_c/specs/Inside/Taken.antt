@@ -3,6 +3,7 @@ use Rattle.std.specs.Prelude.{Option, Some, None}
 use Rattle.std.specs.Global.{Box}
 use Rattle.ini.specs.Documents.{Document}
 use Rattle.ini_edit.specs.Sources.{Pieces}
+use Rattle.ini_c.specs.Held.{pieces_kept}
 use Rattle.ini_c.specs.declared.document.Kept.{Kept}
 
 -- the document of a box, if it is there
@@ -12,5 +13,5 @@ kept_document None = None
 
 -- the pieces of a box, if it is there
 abbrev pub kept_text : Option (Box Kept) → Option Pieces
-kept_text (Some kept) = Some kept.value.text
+kept_text (Some kept) = pieces_kept kept.value
 kept_text None = None

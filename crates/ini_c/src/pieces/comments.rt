@@ -1,6 +1,6 @@
 //! Comments above keys of a text in pieces, copied out and set, and pairs made comments.
-ghost use Rattle.std.specs.Prelude.{◌≡◌, ◌∷◌, [], ◌≤◌, ◌↔◌, IsSome, IsSomeAnd, IsTrue, None, Some, length};
-ghost use Rattle.std.specs.Prelude.{slice_get, take, true};
+ghost use Rattle.std.specs.Prelude.{◌≡◌, ◌∷◌, [], ◌≤◌, ◌↔◌, IfErr, IfOk, IsSome, IsSomeAnd, IsTrue, None};
+ghost use Rattle.std.specs.Prelude.{Some, length, slice_get, take, true};
 ghost use Rattle.std.specs.Option.{option_and_then, option_map};
 ghost use Rattle.std.specs.Str.{IsUtf8, chars};
 ghost use Rattle.ini_edit.specs.SourceEditsComments.{CommentsOut, RefusesComment, RefusesToCommentOut};
@@ -17,8 +17,33 @@ use crate::copies::{give, pair_of, place_of};
 use crate::document::Text;
 use crate::options::WriteChoice;
 use crate::{ABSENT, NO_DOCUMENT, NO_MEMORY, NO_PLACE, NOT_UTF8, OK, UNPLAIN_VALUE};
-use ini_edit::EditError;
+use ini_edit::{EditError, Source};
 use std::alloc::Global;
+
+// The comment lines directly above the first pair of the key in the first section of the name; where there is
+// no such pair, the status.
+fn comment_at<'a>(
+    source: &'a Source<'_>,
+    named: bool,
+    section: &[u8],
+    key: &[u8],
+) -> Result<&'a str, u32>
+    ensures texts { IfOk result (λ comment. AreTexts section.now key.now) }
+    ensures bytes { IfOk result (λ comment. utf8_of (comments_in (name_if named section.now) (chars key.now)
+        source.now) ≡ Some comment.now) }
+    ensures not_utf8 { IfErr result (λ status. status ≡ not_utf8 ↔ ¬ (AreTexts section.now key.now)) }
+    ensures absent { IfErr result (λ status. status ≡ absent →
+        comments_in (name_if named section.now) (chars key.now) source.now ≡ None) }
+    ensures statuses { IfErr result (λ status. IsTrue (is_among status (absent ∷ not_utf8 ∷ []))) }
+{
+    let Some((name, key)) = place_of(named, section, key) else {
+        return Err(NOT_UTF8);
+    };
+    match source.comment_of(name, key) {
+        Some(comment) => Ok(comment),
+        None => Err(ABSENT),
+    }
+}
 
 /// Copies the comment lines out that stand directly above the first pair of the key in the first section
 /// of the name, with their marks and line ends, and a 0 after them; no bytes where none stand there.
@@ -49,16 +74,15 @@ pub extern "C" fn bigrosk_ini_text_comment(
     ensures rest { ¬ (result ≡ ok) → out.new ≡ out.old }
     ensures statuses { IsTrue (is_among result (ok ∷ absent ∷ no_room ∷ not_utf8 ∷ no_document ∷ [])) }
 {
-    let Some(source) = text.opened() else {
+    let Some(tied) = text.tied() else {
         return NO_DOCUMENT;
     };
-    let Some((name, key)) = place_of(named, section, key) else {
-        return NOT_UTF8;
-    };
-    match source.comment_of(name, key) {
-        Some(comments) => give(comments, out, count),
-        None => ABSENT,
-    }
+    tied.with_both(&mut (out, count), |source, (out, count)| {
+        match comment_at(source, named, section, key) {
+            Ok(comment) => give(comment, *out, *count),
+            Err(status) => status,
+        }
+    })
 }
 
 /// Puts comment lines directly above the first pair of the key in the first section of the name, in place
@@ -97,20 +121,22 @@ pub extern "C" fn bigrosk_ini_text_set_comment(
         ∷ unplain_value ∷ no_place
         ∷ [])) }
 {
-    let Some(source) = text.opened_mut() else {
+    let Some(tied) = text.tied() else {
         return NO_DOCUMENT;
     };
-    let Some((name, key, comment)) = pair_of(named, section, key, comment) else {
-        return NOT_UTF8;
-    };
-    let option = write.to_option();
-    match source.set_comment(alloc, &option, name, key, comment) {
-        Ok(true) => OK,
-        Ok(false) => ABSENT,
-        Err(EditError::Value) => UNPLAIN_VALUE,
-        Err(EditError::NoPlace) => NO_PLACE,
-        Err(_) => NO_MEMORY,
-    }
+    tied.with(|source| {
+        let Some((name, key, comment)) = pair_of(named, section, key, comment) else {
+            return NOT_UTF8;
+        };
+        let option = write.to_option();
+        match source.set_comment(alloc, &option, name, key, comment) {
+            Ok(true) => OK,
+            Ok(false) => ABSENT,
+            Err(EditError::Value) => UNPLAIN_VALUE,
+            Err(EditError::NoPlace) => NO_PLACE,
+            Err(_) => NO_MEMORY,
+        }
+    })
 }
 
 /// Makes the first pair of the key in the first section of the name a comment, each of its lines after `;
@@ -140,17 +166,18 @@ pub extern "C" fn bigrosk_ini_text_comment_out(
     ensures statuses { IsTrue (is_among result (ok ∷ absent ∷ not_utf8 ∷ no_memory ∷ no_document ∷ no_place
         ∷ [])) }
 {
-    let Some(source) = text.opened_mut() else {
+    let Some(tied) = text.tied() else {
         return NO_DOCUMENT;
     };
-    let Some((name, key)) = place_of(named, section, key) else {
-        return NOT_UTF8;
-    };
-
-    match source.comment_out(alloc, name, key) {
-        Ok(true) => OK,
-        Ok(false) => ABSENT,
-        Err(EditError::NoPlace) => NO_PLACE,
-        Err(_) => NO_MEMORY,
-    }
+    tied.with(|source| {
+        let Some((name, key)) = place_of(named, section, key) else {
+            return NOT_UTF8;
+        };
+        match source.comment_out(alloc, name, key) {
+            Ok(true) => OK,
+            Ok(false) => ABSENT,
+            Err(EditError::NoPlace) => NO_PLACE,
+            Err(_) => NO_MEMORY,
+        }
+    })
 }

@@ -12,6 +12,7 @@ ghost use Rattle.ini_c.specs.Changes.{AreChangesGiven, RefusesAt, changes_given,
 ghost use Rattle.ini_c.specs.Changes.{difference_in, with_change};
 ghost use Rattle.ini_c.specs.Held.{document_of, pieces_of};
 ghost use Rattle.ini_c.specs.Inside.Gathered.{contents};
+ghost use Rattle.ini_c.specs.Inside.MadeChanges.{AreMadeOf};
 ghost use Rattle.ini_c.specs.Listings.{AreSizesOf, copied_listing, fits};
 ghost use Rattle.ini_c.specs.Statuses.{is_among, no_document, no_memory, no_place, no_room, not_utf8, ok};
 ghost use Rattle.ini_c.specs.Statuses.{unplain_key, unplain_name, unplain_value};
@@ -25,7 +26,7 @@ use crate::pieces::changes::changes_given;
 use crate::pieces::documents::to_document;
 use crate::refusal::status_of;
 use crate::{NO_DOCUMENT, NO_MEMORY, OK};
-use ini::Error;
+use ini::{Error, Ini};
 use ini_dialect::Lookup;
 use ini_edit::Source;
 use ini_layers::{Change, apply, diff};
@@ -54,18 +55,12 @@ fn list_changes(alloc: Global, changes: &[Change<'_>]) -> Result<Listing, AllocE
     Ok(listing)
 }
 
-// The difference of the documents that two texts mean.
-fn list_difference(
-    alloc: Global,
-    from: &Source<'static>,
-    to: &Source<'static>,
-) -> Result<Listing, Error>
+// The difference of two documents.
+fn list_difference(alloc: Global, from: &Ini, to: &Ini) -> Result<Listing, Error>
     ensures { IfOk result (λ listing. contents listing
-        ≡ changes_listed (difference (document_in from.now) (document_in to.now))) }
+        ≡ changes_listed (difference from.now to.now)) }
 {
-    let from = to_document(alloc, from)?;
-    let to = to_document(alloc, to)?;
-    let changes = diff(alloc, &from, &to)?;
+    let changes = diff(alloc, from, to)?;
     Ok(list_changes(alloc, changes.as_slice())?)
 }
 
@@ -96,16 +91,74 @@ pub extern "C" fn bigrosk_ini_text_diff(
     ensures counts_stay { ¬ (result ≡ ok) → counts.new ≡ counts.old }
     ensures statuses { IsTrue (is_among result (ok ∷ no_room ∷ no_memory ∷ no_document ∷ [])) }
 {
-    let Some(from) = from.opened() else {
+    let Some(from) = from.tied() else {
         return NO_DOCUMENT;
     };
-    let Some(to) = to.opened() else {
+    let Some(to) = to.tied() else {
         return NO_DOCUMENT;
     };
-    let Ok(listing) = list_difference(alloc, from, to) else {
+    let Ok(from) = from.with(|source| to_document(alloc, source)) else {
+        return NO_MEMORY;
+    };
+    let Ok(to) = to.with(|source| to_document(alloc, source)) else {
+        return NO_MEMORY;
+    };
+    let Ok(listing) = list_difference(alloc, &from, &to) else {
         return NO_MEMORY;
     };
     give_listing(&listing, bytes, counts, sizes)
+}
+
+// Makes the changes that C gives in the pieces of a text, all or none; the status of that, and the index of
+// the change that is refused.
+fn apply_given(
+    alloc: Global,
+    source: &mut Source<'_>,
+    write: &WriteChoice,
+    bytes: &[u8],
+    counts: &[usize],
+    refused: &mut usize,
+) -> u32
+    ensures not_utf8 { result ≡ not_utf8 → ¬ AreChangesGiven bytes.now counts.now }
+    ensures given { ¬ (IsTrue (is_among result (not_utf8 ∷ no_memory ∷ [])))
+        → AreChangesGiven bytes.now counts.now }
+    ensures made { result ≡ ok
+        → AreMadeOf write.now (changes_given bytes.now counts.now) source.old source.new }
+    ensures unplain_value { result ≡ unplain_value
+        → RefusesAt write.now source.old (changes_given bytes.now counts.now) refused.new Value }
+    ensures unplain_key { result ≡ unplain_key
+        → RefusesAt write.now source.old (changes_given bytes.now counts.now) refused.new Key }
+    ensures unplain_name { result ≡ unplain_name
+        → RefusesAt write.now source.old (changes_given bytes.now counts.now) refused.new Name }
+    ensures no_place { result ≡ no_place
+        → RefusesAt write.now source.old (changes_given bytes.now counts.now) refused.new NoPlace }
+    ensures unchanged { ¬ (result ≡ ok) → source.new ≡ source.old }
+    ensures refused_stays { IsTrue (is_among result (ok ∷ not_utf8 ∷ [])) → refused.new ≡ refused.old }
+    ensures statuses { IsTrue (is_among result (ok ∷ not_utf8 ∷ no_memory
+        ∷ unplain_value ∷ unplain_key
+        ∷ no_place ∷ unplain_name ∷ [])) }
+{
+    let changes = match changes_given(alloc, bytes, counts) {
+        Ok(changes) => changes,
+        Err(status) => return status,
+    };
+    let option = write.to_option();
+    match apply(
+        alloc,
+        Lookup::default(),
+        &option,
+        changes.as_slice(),
+        source,
+    ) {
+        Ok(new) => {
+            source.replace_with(new);
+            OK
+        }
+        Err(refusal) => {
+            *refused = refusal.index;
+            status_of(refusal.refusal)
+        }
+    }
 }
 
 /// Makes changes in a text, one after another, all or none, whatever values the settings have there: a
@@ -155,28 +208,10 @@ pub extern "C" fn bigrosk_ini_text_apply(
         ∷ unplain_value ∷ unplain_key
         ∷ no_place ∷ unplain_name ∷ [])) }
 {
-    let Some(source) = text.opened_mut() else {
+    let Some(tied) = text.tied() else {
         return NO_DOCUMENT;
     };
-    let changes = match changes_given(alloc, bytes, counts) {
-        Ok(changes) => changes,
-        Err(status) => return status,
-    };
-    let option = write.to_option();
-    match apply(
-        alloc,
-        Lookup::default(),
-        &option,
-        changes.as_slice(),
-        source,
-    ) {
-        Ok(new) => {
-            source.replace_with(new);
-            OK
-        }
-        Err(refusal) => {
-            *refused = refusal.index;
-            status_of(refusal.refusal)
-        }
-    }
+    tied.with_both(refused, |source, refused| {
+        apply_given(alloc, source, write, bytes, counts, refused)
+    })
 }

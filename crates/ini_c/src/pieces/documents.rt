@@ -7,7 +7,7 @@ use ini_edit::{Source, SourceSection};
 use std::alloc::{AllocError, Global};
 
 // A copy of the sections and pairs.
-pub(crate) fn to_document(alloc: Global, source: &Source<'static>) -> Result<Ini, Error>
+pub(crate) fn to_document(alloc: Global, source: &Source<'_>) -> Result<Ini, Error>
     ensures { IfOk result (λ document. document ≡ document_in source.now) }
 {
     let mut document = Ini::new(alloc)?;
@@ -19,11 +19,7 @@ pub(crate) fn to_document(alloc: Global, source: &Source<'static>) -> Result<Ini
 }
 
 // Puts a copy of a section last.
-fn push_section(
-    alloc: Global,
-    section: &SourceSection<'static>,
-    document: &mut Ini,
-) -> Result<(), Error>
+fn push_section(alloc: Global, section: &SourceSection<'_>, document: &mut Ini) -> Result<(), Error>
     ensures { OnOk result (document.new ≡ document.old ++ given_section section.now ∷ []) }
 {
     let mut pairs = Properties::new(alloc);

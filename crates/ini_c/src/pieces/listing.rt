@@ -1,5 +1,5 @@
 //! Values, pairs and sections of a text in pieces in order, to C.
-ghost use Rattle.std.specs.Prelude.{◌≡◌, ◌∷◌, [], ◌↔◌, IfOk, IsSome, IsSomeAnd, IsTrue, None, OnOk};
+ghost use Rattle.std.specs.Prelude.{◌≡◌, ◌∷◌, [], ◌↔◌, IfErr, IfOk, IsSome, IsSomeAnd, IsTrue, None, OnOk};
 ghost use Rattle.std.specs.Prelude.{Some, false, map};
 ghost use Rattle.std.specs.Option.{option_map};
 ghost use Rattle.std.specs.Str.{IsUtf8, chars};
@@ -31,7 +31,7 @@ fn list_values(alloc: Global, values: &[&str]) -> Result<Listing, AllocError>
 }
 
 // All pairs, in order.
-fn list_pairs(alloc: Global, section: &SourceSection<'static>) -> Result<Listing, AllocError>
+fn list_pairs(alloc: Global, section: &SourceSection<'_>) -> Result<Listing, AllocError>
     ensures { IfOk result (λ listing. contents listing
         ≡ pairs_listed (map given_pair section.now.pairs)) }
 {
@@ -43,7 +43,7 @@ fn list_pairs(alloc: Global, section: &SourceSection<'static>) -> Result<Listing
 }
 
 // Puts a section last.
-fn push_section(listing: &mut Listing, section: &SourceSection<'static>) -> Result<(), AllocError>
+fn push_section(listing: &mut Listing, section: &SourceSection<'_>) -> Result<(), AllocError>
     ensures { OnOk result
         (contents listing.new ≡ with_section (contents listing.old) (given_section section.now)) }
 {
@@ -56,7 +56,7 @@ fn push_section(listing: &mut Listing, section: &SourceSection<'static>) -> Resu
 }
 
 // All sections with their pairs, in order.
-fn list_sections(alloc: Global, source: &Source<'static>) -> Result<Listing, AllocError>
+fn list_sections(alloc: Global, source: &Source<'_>) -> Result<Listing, AllocError>
     ensures { IfOk result (λ listing. contents listing ≡ document_listed (document_in source.now)) }
 {
     let mut listing = Listing::new(alloc);
@@ -64,6 +64,68 @@ fn list_sections(alloc: Global, source: &Source<'static>) -> Result<Listing, All
         push_section(&mut listing, section)?;
     }
     Ok(listing)
+}
+
+// The values of the key in the first section of the name, in order; where there is none, the status.
+fn values_of(
+    alloc: Global,
+    source: &Source<'_>,
+    named: bool,
+    section: &[u8],
+    key: &[u8],
+) -> Result<Listing, u32>
+    ensures texts { IfOk result (λ listing. AreTexts section.now key.now) }
+    ensures there { IfOk result (λ listing.
+        IsSome (found_in (name_if named section.now) (chars key.now) (Some (document_in source.now)))) }
+    ensures listed { IfOk result (λ listing. option_map values_listed
+        (all_found_in (name_if named section.now) (chars key.now) (Some (document_in source.now)))
+        ≡ Some (contents listing)) }
+    ensures absent { IfErr result (λ status. status ≡ absent →
+        found_in (name_if named section.now) (chars key.now) (Some (document_in source.now)) ≡ None) }
+    ensures not_utf8 { IfErr result (λ status. status ≡ not_utf8 ↔ ¬ (AreTexts section.now key.now)) }
+    ensures statuses { IfErr result
+        (λ status. IsTrue (is_among status (absent ∷ not_utf8 ∷ no_memory ∷ []))) }
+{
+    let Some((name, key)) = place_of(named, section, key) else {
+        return Err(NOT_UTF8);
+    };
+    let Some(section) = source.section(name) else {
+        return Err(ABSENT);
+    };
+    if section.get(key).is_none() {
+        return Err(ABSENT);
+    }
+    let Ok(values) = section.get_all(alloc, key) else {
+        return Err(NO_MEMORY);
+    };
+    match list_values(alloc, values.as_slice()) {
+        Ok(listing) => Ok(listing),
+        Err(_) => Err(NO_MEMORY),
+    }
+}
+
+// The pairs of the first section of the name, in order; where there is none, the status.
+fn pairs_of(alloc: Global, source: &Source<'_>, named: bool, section: &[u8]) -> Result<Listing, u32>
+    ensures texts { IfOk result (λ listing. IsUtf8 section.now) }
+    ensures listed { IfOk result (λ listing. option_map pairs_listed
+        (pairs_found_in (name_if named section.now) (Some (document_in source.now)))
+        ≡ Some (contents listing)) }
+    ensures absent { IfErr result (λ status. status ≡ absent →
+        ¬ (HasSection (name_if named section.now) (Some (document_in source.now)))) }
+    ensures not_utf8 { IfErr result (λ status. status ≡ not_utf8 ↔ ¬ (IsUtf8 section.now)) }
+    ensures statuses { IfErr result
+        (λ status. IsTrue (is_among status (absent ∷ not_utf8 ∷ no_memory ∷ []))) }
+{
+    let Ok(section) = str::from_utf8(section) else {
+        return Err(NOT_UTF8);
+    };
+    let Some(section) = source.section(name_of(named, section)) else {
+        return Err(ABSENT);
+    };
+    match list_pairs(alloc, section) {
+        Ok(listing) => Ok(listing),
+        Err(_) => Err(NO_MEMORY),
+    }
 }
 
 /// Copies all values of the key in the first section of the name out, in order: in `bytes` one after
@@ -100,25 +162,14 @@ pub extern "C" fn bigrosk_ini_text_get_all(
     ensures statuses { IsTrue
         (is_among result (ok ∷ absent ∷ no_room ∷ not_utf8 ∷ no_memory ∷ no_document ∷ [])) }
 {
-    let Some(source) = text.opened() else {
+    let Some(tied) = text.tied() else {
         return NO_DOCUMENT;
     };
-    let Some((name, key)) = place_of(named, section, key) else {
-        return NOT_UTF8;
-    };
-    let Some(section) = source.section(name) else {
-        return ABSENT;
-    };
-    if section.get(key).is_none() {
-        return ABSENT;
+    let listed = tied.with(|source| values_of(alloc, source, named, section, key));
+    match listed {
+        Ok(listing) => give_listing(&listing, bytes, counts, sizes),
+        Err(status) => status,
     }
-    let Ok(values) = section.get_all(alloc, key) else {
-        return NO_MEMORY;
-    };
-    let Ok(listing) = list_values(alloc, values.as_slice()) else {
-        return NO_MEMORY;
-    };
-    give_listing(&listing, bytes, counts, sizes)
 }
 
 /// Copies all pairs of the first section of the name out, in order, as `bigrosk_ini_text_get_all` copies
@@ -148,19 +199,14 @@ pub extern "C" fn bigrosk_ini_text_pairs(
     ensures statuses { IsTrue
         (is_among result (ok ∷ absent ∷ no_room ∷ not_utf8 ∷ no_memory ∷ no_document ∷ [])) }
 {
-    let Some(source) = text.opened() else {
+    let Some(tied) = text.tied() else {
         return NO_DOCUMENT;
     };
-    let Ok(section) = str::from_utf8(section) else {
-        return NOT_UTF8;
-    };
-    let Some(section) = source.section(name_of(named, section)) else {
-        return ABSENT;
-    };
-    let Ok(listing) = list_pairs(alloc, section) else {
-        return NO_MEMORY;
-    };
-    give_listing(&listing, bytes, counts, sizes)
+    let listed = tied.with(|source| pairs_of(alloc, source, named, section));
+    match listed {
+        Ok(listing) => give_listing(&listing, bytes, counts, sizes),
+        Err(status) => status,
+    }
 }
 
 /// Copies all sections with their pairs out, in order, as `bigrosk_ini_items` copies a document.
@@ -183,11 +229,12 @@ pub extern "C" fn bigrosk_ini_text_items(
     ensures counts_stay { ¬ (result ≡ ok) → counts.new ≡ counts.old }
     ensures statuses { IsTrue (is_among result (ok ∷ no_room ∷ no_memory ∷ no_document ∷ [])) }
 {
-    let Some(source) = text.opened() else {
+    let Some(tied) = text.tied() else {
         return NO_DOCUMENT;
     };
-    let Ok(listing) = list_sections(alloc, source) else {
-        return NO_MEMORY;
-    };
-    give_listing(&listing, bytes, counts, sizes)
+    let listed = tied.with(|source| list_sections(alloc, source));
+    match listed {
+        Ok(listing) => give_listing(&listing, bytes, counts, sizes),
+        Err(_) => NO_MEMORY,
+    }
 }

@@ -15,6 +15,7 @@ ghost use Rattle.ini_c.specs.Texts.{TellsPlace, value_place};
 
 use crate::copies::{give, name_of, place_of};
 use crate::document::Text;
+use crate::tied::Asked;
 use crate::{ABSENT, NO_DOCUMENT, NOT_UTF8, OK};
 use ini_edit::Source;
 
@@ -27,8 +28,8 @@ pub struct Place {
 }
 
 // The first value of the key in the first section of the name; where there is none, the status.
-fn value_at<'a>(
-    source: &'a Source<'static>,
+pub(crate) fn value_at<'a>(
+    source: &'a Source<'_>,
     named: bool,
     section: &[u8],
     key: &[u8],
@@ -80,13 +81,15 @@ pub extern "C" fn bigrosk_ini_text_get(
     ensures rest { ¬ (result ≡ ok) → value.new ≡ value.old }
     ensures statuses { IsTrue (is_among result (ok ∷ absent ∷ no_room ∷ not_utf8 ∷ no_document ∷ [])) }
 {
-    let Some(source) = text.opened() else {
+    let Some(tied) = text.tied() else {
         return NO_DOCUMENT;
     };
-    match value_at(source, named, section, key) {
-        Ok(found) => give(found, value, count),
-        Err(status) => status,
-    }
+    tied.with_both(&mut (value, count), |source, (value, count)| {
+        match value_at(source, named, section, key) {
+            Ok(found) => give(found, *value, *count),
+            Err(status) => status,
+        }
+    })
 }
 
 // The value of the key, or where there is none what stood before, and the status.
@@ -110,12 +113,16 @@ fn value_or<'a>(
     ensures rest { ¬ (result.1 ≡ ok) → result.0 ≡ before.entry }
     ensures statuses { IsTrue (is_among result.1 (ok ∷ absent ∷ not_utf8 ∷ no_document ∷ [])) }
 {
-    let Some(source) = text.opened() else {
+    let Some(tied) = text.tied() else {
         return (before, NO_DOCUMENT);
     };
-    match value_at(source, named, section, key) {
-        Ok(value) => (value.as_bytes(), OK),
-        Err(status) => (before, status),
+    match tied.found(Asked {
+        named,
+        section,
+        key,
+    }) {
+        (value, OK) => (value, OK),
+        (_, status) => (before, status),
     }
 }
 
@@ -167,13 +174,13 @@ pub extern "C" fn bigrosk_ini_text_has(
         IsSome (found_in (name_if named section.now) (chars key.now) (document_of text.old)) }
     ensures statuses { IsTrue (is_among result (ok ∷ absent ∷ not_utf8 ∷ no_document ∷ [])) }
 {
-    let Some(source) = text.opened() else {
+    let Some(tied) = text.tied() else {
         return NO_DOCUMENT;
     };
-    match value_at(source, named, section, key) {
+    tied.with(|source| match value_at(source, named, section, key) {
         Ok(_) => OK,
         Err(status) => status,
-    }
+    })
 }
 
 /// Whether a section has the name: `OK` or `ABSENT`.
@@ -186,16 +193,16 @@ pub extern "C" fn bigrosk_ini_text_has_section(text: &mut Text, named: bool, sec
     ensures there { result ≡ ok → HasSection (name_if named section.now) (document_of text.old) }
     ensures statuses { IsTrue (is_among result (ok ∷ absent ∷ not_utf8 ∷ no_document ∷ [])) }
 {
-    let Some(source) = text.opened() else {
+    let Some(tied) = text.tied() else {
         return NO_DOCUMENT;
     };
     let Ok(section) = str::from_utf8(section) else {
         return NOT_UTF8;
     };
-    match source.section(name_of(named, section)) {
+    tied.with(|source| match source.section(name_of(named, section)) {
         Some(_) => OK,
         None => ABSENT,
-    }
+    })
 }
 
 /// Tells where the first value of the key in the first section of the name begins in the text as it now is,
@@ -220,16 +227,18 @@ pub extern "C" fn bigrosk_ini_text_place(
     ensures rest { ¬ (result ≡ ok) → place.new ≡ place.old }
     ensures statuses { IsTrue (is_among result (ok ∷ absent ∷ not_utf8 ∷ no_document ∷ [])) }
 {
-    let Some(source) = text.opened() else {
+    let Some(tied) = text.tied() else {
         return NO_DOCUMENT;
     };
-    let Some((name, key)) = place_of(named, section, key) else {
-        return NOT_UTF8;
-    };
-    let Some(position) = source.position_of_value(name, key) else {
-        return ABSENT;
-    };
-    place.line = position.line;
-    place.column = position.column;
-    OK
+    tied.with_both(place, |source, place| {
+        let Some((name, key)) = place_of(named, section, key) else {
+            return NOT_UTF8;
+        };
+        let Some(position) = source.position_of_value(name, key) else {
+            return ABSENT;
+        };
+        place.line = position.line;
+        place.column = position.column;
+        OK
+    })
 }

@@ -7,10 +7,11 @@ ghost use Rattle.ini_edit.specs.declared.error.EditError.TheVariants.{Key, Name,
 ghost use Rattle.ini_layers.specs.Merging.{IsMerged, setting_conflict, taken_under};
 ghost use Rattle.ini_layers.specs.Settings.{AlikeUnder};
 ghost use Rattle.ini_layers.specs.SourceChanges.{AreMade};
-ghost use Rattle.ini_c.specs.Changes.{Merges, RefusesToMerge, conflicts_between, conflicts_in};
+ghost use Rattle.ini_c.specs.Changes.{Merges, RefusesAt, RefusesToMerge, conflicts_between, conflicts_in};
 ghost use Rattle.ini_c.specs.Changes.{conflicts_listed, side_if, with_conflict};
 ghost use Rattle.ini_c.specs.Held.{document_of, pieces_of};
 ghost use Rattle.ini_c.specs.Inside.Gathered.{contents};
+ghost use Rattle.ini_c.specs.Inside.MadeChanges.{IsMergeOf};
 ghost use Rattle.ini_c.specs.Listings.{AreSizesOf, copied_listing, fits};
 ghost use Rattle.ini_c.specs.Statuses.{is_among, no_document, no_memory, no_place, no_room, ok};
 ghost use Rattle.ini_c.specs.Statuses.{unplain_key, unplain_name, unplain_value};
@@ -24,7 +25,7 @@ use crate::pieces::differences::push_change;
 use crate::pieces::documents::to_document;
 use crate::refusal::status_of;
 use crate::{NO_DOCUMENT, NO_MEMORY, OK};
-use ini::Error;
+use ini::{Error, Ini};
 use ini_dialect::Lookup;
 use ini_edit::Source;
 use ini_layers::{Conflict, FlatSides, Side, merge};
@@ -51,19 +52,12 @@ fn list_conflicts(alloc: Global, conflicts: &[Conflict<'_>]) -> Result<Listing, 
     Ok(listing)
 }
 
-// The conflicts of two texts with their base.
-fn list_all(
-    alloc: Global,
-    base: &Source<'static>,
-    ours: &Source<'static>,
-    theirs: &Source<'static>,
-) -> Result<Listing, Error>
+// The conflicts of a document and a text with their base.
+fn list_all(alloc: Global, base: &Ini, ours: &Ini, theirs: &Source<'_>) -> Result<Listing, Error>
     ensures { IfOk result (λ listing. contents listing ≡ conflicts_listed
-        (conflicts_between (document_in base.now) (document_in ours.now) (document_in theirs.now))) }
+        (conflicts_between base.now ours.now (document_in theirs.now))) }
 {
-    let base = to_document(alloc, base)?;
-    let ours = to_document(alloc, ours)?;
-    let sides = FlatSides::new(alloc, Lookup::default(), &base, &ours, theirs)?;
+    let sides = FlatSides::new(alloc, Lookup::default(), base, ours, theirs)?;
     let found = sides.conflicts(alloc)?;
     Ok(list_conflicts(alloc, found.as_slice())?)
 }
@@ -96,16 +90,22 @@ pub extern "C" fn bigrosk_ini_text_conflicts(
     ensures counts_stay { ¬ (result ≡ ok) → counts.new ≡ counts.old }
     ensures statuses { IsTrue (is_among result (ok ∷ no_room ∷ no_memory ∷ no_document ∷ [])) }
 {
-    let Some(base) = base.opened() else {
+    let Some(base) = base.tied() else {
         return NO_DOCUMENT;
     };
-    let Some(ours) = ours.opened() else {
+    let Some(ours) = ours.tied() else {
         return NO_DOCUMENT;
     };
-    let Some(theirs) = theirs.opened() else {
+    let Some(theirs) = theirs.tied() else {
         return NO_DOCUMENT;
     };
-    let Ok(listing) = list_all(alloc, base, ours, theirs) else {
+    let Ok(base) = base.with(|source| to_document(alloc, source)) else {
+        return NO_MEMORY;
+    };
+    let Ok(ours) = ours.with(|source| to_document(alloc, source)) else {
+        return NO_MEMORY;
+    };
+    let Ok(listing) = theirs.with(|theirs| list_all(alloc, &base, &ours, theirs)) else {
         return NO_MEMORY;
     };
     give_listing(&listing, bytes, counts, sizes)
@@ -116,6 +116,51 @@ fn side_of(take_ours: bool) -> Side
     ensures { result ≡ side_if take_ours }
 {
     if take_ours { Side::Ours } else { Side::Theirs }
+}
+
+// Makes what `ours` changed in `base` in `theirs`; the status of that, and the index of the change that is
+// refused.
+fn merge_into(
+    alloc: Global,
+    base: &Ini,
+    ours: &Ini,
+    theirs: &mut Source<'_>,
+    write: &WriteChoice,
+    take_ours: bool,
+    refused: &mut usize,
+) -> u32
+    ensures made { result ≡ ok
+        → IsMergeOf write.now (side_if take_ours) base.now ours.now theirs.old theirs.new }
+    ensures unplain_value { result ≡ unplain_value
+        → RefusesAt write.now theirs.old (taken_under default_lookup (side_if take_ours) base.now ours.now
+        (document_in theirs.old)) refused.new Value }
+    ensures unplain_key { result ≡ unplain_key
+        → RefusesAt write.now theirs.old (taken_under default_lookup (side_if take_ours) base.now ours.now
+        (document_in theirs.old)) refused.new Key }
+    ensures unplain_name { result ≡ unplain_name
+        → RefusesAt write.now theirs.old (taken_under default_lookup (side_if take_ours) base.now ours.now
+        (document_in theirs.old)) refused.new Name }
+    ensures no_place { result ≡ no_place
+        → RefusesAt write.now theirs.old (taken_under default_lookup (side_if take_ours) base.now ours.now
+        (document_in theirs.old)) refused.new NoPlace }
+    ensures unchanged { ¬ (result ≡ ok) → theirs.new ≡ theirs.old }
+    ensures refused_stays { result ≡ ok → refused.new ≡ refused.old }
+    ensures statuses { IsTrue (is_among result (ok ∷ no_memory
+        ∷ unplain_value ∷ unplain_key
+        ∷ no_place ∷ unplain_name ∷ [])) }
+{
+    let option = write.to_option();
+    let (rule, side) = (Lookup::default(), side_of(take_ours));
+    match merge(alloc, rule, &option, base, ours, theirs, side) {
+        Ok(new) => {
+            theirs.replace_with(new);
+            OK
+        }
+        Err(refusal) => {
+            *refused = refusal.index;
+            status_of(refusal.refusal)
+        }
+    }
 }
 
 /// Makes what `ours` changed in `base` in `theirs`: each setting that only one side changed has that side's
@@ -169,31 +214,22 @@ pub extern "C" fn bigrosk_ini_text_merge3(
         ∷ unplain_value ∷ unplain_key
         ∷ no_place ∷ unplain_name ∷ [])) }
 {
-    let Some(base) = base.opened() else {
+    let Some(base) = base.tied() else {
         return NO_DOCUMENT;
     };
-    let Some(ours) = ours.opened() else {
+    let Some(ours) = ours.tied() else {
         return NO_DOCUMENT;
     };
-    let Some(theirs) = theirs.opened_mut() else {
+    let Some(theirs) = theirs.tied() else {
         return NO_DOCUMENT;
     };
-    let Ok(base) = to_document(alloc, base) else {
+    let Ok(base) = base.with(|source| to_document(alloc, source)) else {
         return NO_MEMORY;
     };
-    let Ok(ours) = to_document(alloc, ours) else {
+    let Ok(ours) = ours.with(|source| to_document(alloc, source)) else {
         return NO_MEMORY;
     };
-    let option = write.to_option();
-    let (rule, side) = (Lookup::default(), side_of(take_ours));
-    match merge(alloc, rule, &option, &base, &ours, theirs, side) {
-        Ok(new) => {
-            theirs.replace_with(new);
-            OK
-        }
-        Err(refusal) => {
-            *refused = refusal.index;
-            status_of(refusal.refusal)
-        }
-    }
+    theirs.with_both(refused, |theirs, refused| {
+        merge_into(alloc, &base, &ours, theirs, write, take_ours, refused)
+    })
 }

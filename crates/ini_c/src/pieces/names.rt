@@ -54,19 +54,21 @@ pub extern "C" fn bigrosk_ini_text_rename_key(
         ∷ unplain_key
         ∷ [])) }
 {
-    let Some(source) = text.opened_mut() else {
+    let Some(tied) = text.tied() else {
         return NO_DOCUMENT;
     };
-    let Some((name, key, new_key)) = pair_of(named, section, key, new_key) else {
-        return NOT_UTF8;
-    };
-    let policy = write.to_option().escape_policy;
-    match source.rename_key(alloc, policy, name, key, new_key) {
-        Ok(true) => OK,
-        Ok(false) => ABSENT,
-        Err(EditError::Key) => UNPLAIN_KEY,
-        Err(_) => NO_MEMORY,
-    }
+    tied.with(|source| {
+        let Some((name, key, new_key)) = pair_of(named, section, key, new_key) else {
+            return NOT_UTF8;
+        };
+        let policy = write.to_option().escape_policy;
+        match source.rename_key(alloc, policy, name, key, new_key) {
+            Ok(true) => OK,
+            Ok(false) => ABSENT,
+            Err(EditError::Key) => UNPLAIN_KEY,
+            Err(_) => NO_MEMORY,
+        }
+    })
 }
 
 /// Puts another name into the header of the first section of the name; the general section has no header.
@@ -95,22 +97,24 @@ pub extern "C" fn bigrosk_ini_text_rename_section(
         ∷ unplain_name
         ∷ [])) }
 {
-    let Some(source) = text.opened_mut() else {
+    let Some(tied) = text.tied() else {
         return NO_DOCUMENT;
     };
-    let Ok(section) = str::from_utf8(section) else {
-        return NOT_UTF8;
-    };
-    let Ok(new_name) = str::from_utf8(new_name) else {
-        return NOT_UTF8;
-    };
-    let policy = write.to_option().escape_policy;
-    match source.rename_section(alloc, policy, section, new_name) {
-        Ok(true) => OK,
-        Ok(false) => ABSENT,
-        Err(EditError::Name) => UNPLAIN_NAME,
-        Err(_) => NO_MEMORY,
-    }
+    tied.with(|source| {
+        let Ok(section) = str::from_utf8(section) else {
+            return NOT_UTF8;
+        };
+        let Ok(new_name) = str::from_utf8(new_name) else {
+            return NOT_UTF8;
+        };
+        let policy = write.to_option().escape_policy;
+        match source.rename_section(alloc, policy, section, new_name) {
+            Ok(true) => OK,
+            Ok(false) => ABSENT,
+            Err(EditError::Name) => UNPLAIN_NAME,
+            Err(_) => NO_MEMORY,
+        }
+    })
 }
 
 /// Takes out the first section of the name and all that follows it, but for the comments directly above
@@ -135,17 +139,19 @@ pub extern "C" fn bigrosk_ini_text_delete_section(
     ensures unchanged { ¬ (result ≡ ok) → pieces_of text.new ≡ pieces_of text.old }
     ensures statuses { IsTrue (is_among result (ok ∷ absent ∷ not_utf8 ∷ no_memory ∷ no_document ∷ [])) }
 {
-    let Some(source) = text.opened_mut() else {
+    let Some(tied) = text.tied() else {
         return NO_DOCUMENT;
     };
-    let Ok(section) = str::from_utf8(section) else {
-        return NOT_UTF8;
-    };
-    match source.delete_section(alloc, section) {
-        Ok(true) => OK,
-        Ok(false) => ABSENT,
-        Err(_) => NO_MEMORY,
-    }
+    tied.with(|source| {
+        let Ok(section) = str::from_utf8(section) else {
+            return NOT_UTF8;
+        };
+        match source.delete_section(alloc, section) {
+            Ok(true) => OK,
+            Ok(false) => ABSENT,
+            Err(_) => NO_MEMORY,
+        }
+    })
 }
 
 /// Puts a section without pairs in at the text's end, with an empty line before it. `THERE` where a
@@ -175,17 +181,19 @@ pub extern "C" fn bigrosk_ini_text_add_section(
         ∷ unplain_name
         ∷ [])) }
 {
-    let Some(source) = text.opened_mut() else {
+    let Some(tied) = text.tied() else {
         return NO_DOCUMENT;
     };
-    let Ok(section) = str::from_utf8(section) else {
-        return NOT_UTF8;
-    };
-    let option = write.to_option();
-    match source.add_section(alloc, &option, section) {
-        Ok(true) => OK,
-        Ok(false) => THERE,
-        Err(EditError::Name) => UNPLAIN_NAME,
-        Err(_) => NO_MEMORY,
-    }
+    tied.with(|source| {
+        let Ok(section) = str::from_utf8(section) else {
+            return NOT_UTF8;
+        };
+        let option = write.to_option();
+        match source.add_section(alloc, &option, section) {
+            Ok(true) => OK,
+            Ok(false) => THERE,
+            Err(EditError::Name) => UNPLAIN_NAME,
+            Err(_) => NO_MEMORY,
+        }
+    })
 }

@@ -1,28 +1,31 @@
 //! A text in pieces opened, copied out and closed. This file knows no piece.
-ghost use Rattle.std.specs.Prelude.{◌≡◌, ◌∷◌, [], ◌≤◌, ◌↔◌, IfOk, IsSomeAnd, IsTrue, None, Some, length};
-ghost use Rattle.std.specs.Prelude.{slice_get, take};
+ghost use Rattle.std.specs.Prelude.{◌≡◌, ◌∷◌, [], ◌≤◌, ◌↔◌, IfOk, IsOkUnless, IsSomeAnd, IsTrue, None, Some};
+ghost use Rattle.std.specs.Prelude.{alloc_error, length, slice_get, take};
 ghost use Rattle.std.specs.Option.{option_map};
 ghost use Rattle.std.specs.Str.{IsUtf8, chars};
 ghost use Rattle.ini.specs.Loading.{IfParse, IsNotUtf8, IsStopOf};
 ghost use Rattle.ini_c.specs.Choices.{parse_option};
 ghost use Rattle.ini_c.specs.Faults.{IsStopAt};
-ghost use Rattle.ini_c.specs.Held.{pieces_of};
+ghost use Rattle.ini_c.specs.Held.{pieces_kept, pieces_of};
 ghost use Rattle.ini_c.specs.Statuses.{broken, is_among, no_document, no_memory, no_room, not_utf8, ok};
 ghost use Rattle.ini_c.specs.Texts.{IsOpened, bytes_in};
 
 use crate::copies::give;
-use crate::document::{Kept, OwnPieces, Text};
+use crate::document::{Kept, Text};
 use crate::fault::{Fault, tell};
 use crate::options::ReadChoice;
+use crate::parts::Parts;
+use crate::tied::Tied;
 use crate::{BROKEN, NO_DOCUMENT, NO_MEMORY, NOT_UTF8, OK};
 use ini::{Error, Ini, ParseOption};
 use ini_edit::Source;
-use std::alloc::Global;
+use std::alloc::{AllocError, Global};
 
-// The pieces of bytes, which borrow nothing of these, in a box.
+// The text of bytes, which are copied, and its pieces, in a box.
 fn opened(alloc: Global, bytes: &[u8], read: ParseOption) -> Result<Box<Kept>, Error>
     ensures text { IfOk result (λ kept. IsUtf8 bytes.now) }
-    ensures pieces { IfOk result (λ kept. IsOpened read (chars bytes.now) kept.value.text) }
+    ensures pieces { IfOk result
+        (λ kept. IsSomeAnd (pieces_kept kept.value) (IsOpened read (chars bytes.now))) }
     ensures fault { IfParse result (IsStopOf read (chars bytes.now)) }
     ensures fault_of_text { IfParse result (λ refused. IsUtf8 bytes.now) }
     ensures not_utf8 { IsNotUtf8 result ↔ ¬ (IsUtf8 bytes.now) }
@@ -30,10 +33,28 @@ fn opened(alloc: Global, bytes: &[u8], read: ParseOption) -> Result<Box<Kept>, E
     let Ok(text) = str::from_utf8(bytes) else {
         return Err(Error::NotUtf8);
     };
-    let pieces = Source::read_owned(alloc, text, read)?;
-    let text = OwnPieces { pieces };
+    let whole = Box::new(alloc, String::from_str(alloc, text)?)?;
+    let room = Box::new(alloc, no_text(alloc, read)?)?;
     let document = Ini::new(alloc)?;
-    Ok(Box::new(alloc, Kept { document, text })?)
+    let (tied, refused) = Tied::of(Parts::of(whole), Parts::of(room), read);
+    if let Some(error) = refused {
+        return Err(error);
+    }
+    let kept = Kept {
+        document,
+        text: Some(tied),
+    };
+    Ok(Box::new(alloc, kept)?)
+}
+
+// The pieces of no text.
+fn no_text(alloc: Global, read: ParseOption) -> Result<Source<'static>, Error>
+    ensures { IsOkUnless result (Error.Memory alloc_error) }
+{
+    match Source::read(alloc, "", read) {
+        Ok(source) => Ok(source),
+        Err(_) => Err(Error::Memory(AllocError)),
+    }
 }
 
 // Opens a text in pieces, in place of the one that is open, or tells C of the fault.
@@ -115,10 +136,10 @@ pub extern "C" fn bigrosk_ini_text_write(
     ensures rest { ¬ (result ≡ ok) → out.new ≡ out.old }
     ensures statuses { IsTrue (is_among result (ok ∷ no_room ∷ no_memory ∷ no_document ∷ [])) }
 {
-    let Some(source) = text.opened() else {
+    let Some(tied) = text.tied() else {
         return NO_DOCUMENT;
     };
-    match source.to_text(alloc) {
+    match tied.with(|source| source.to_text(alloc)) {
         Ok(text) => give(text.as_str(), out, count),
         Err(_) => NO_MEMORY,
     }

@@ -23,7 +23,7 @@ use crate::document::Text;
 use crate::options::WriteChoice;
 use crate::refusal::status_of;
 use crate::{ABSENT, NO_DOCUMENT, NO_MEMORY, NOT_UTF8, OK, UNPLAIN_VALUE};
-use ini_edit::EditError;
+use ini_edit::{EditError, Source};
 use std::alloc::Global;
 
 /// Sets the value of the pair of the key before which `n` others of it stand in the first section of the
@@ -56,20 +56,21 @@ pub extern "C" fn bigrosk_ini_text_set_nth(
         ∷ unplain_value
         ∷ [])) }
 {
-    let Some(source) = text.opened_mut() else {
+    let Some(tied) = text.tied() else {
         return NO_DOCUMENT;
     };
-    let Some((name, key, value)) = pair_of(named, section, key, value) else {
-        return NOT_UTF8;
-    };
-
-    let policy = write.to_option().escape_policy;
-    match source.set_nth(alloc, policy, name, key, n, value) {
-        Ok(true) => OK,
-        Ok(false) => ABSENT,
-        Err(EditError::Value) => UNPLAIN_VALUE,
-        Err(_) => NO_MEMORY,
-    }
+    tied.with(|source| {
+        let Some((name, key, value)) = pair_of(named, section, key, value) else {
+            return NOT_UTF8;
+        };
+        let policy = write.to_option().escape_policy;
+        match source.set_nth(alloc, policy, name, key, n, value) {
+            Ok(true) => OK,
+            Ok(false) => ABSENT,
+            Err(EditError::Value) => UNPLAIN_VALUE,
+            Err(_) => NO_MEMORY,
+        }
+    })
 }
 
 /// Takes out the pair of the key before which `n` others of it stand in the first section of the name.
@@ -95,18 +96,19 @@ pub extern "C" fn bigrosk_ini_text_delete_nth(
     ensures unchanged { ¬ (result ≡ ok) → pieces_of text.new ≡ pieces_of text.old }
     ensures statuses { IsTrue (is_among result (ok ∷ absent ∷ not_utf8 ∷ no_memory ∷ no_document ∷ [])) }
 {
-    let Some(source) = text.opened_mut() else {
+    let Some(tied) = text.tied() else {
         return NO_DOCUMENT;
     };
-    let Some((name, key)) = place_of(named, section, key) else {
-        return NOT_UTF8;
-    };
-
-    match source.delete_nth(alloc, name, key, n) {
-        Ok(true) => OK,
-        Ok(false) => ABSENT,
-        Err(_) => NO_MEMORY,
-    }
+    tied.with(|source| {
+        let Some((name, key)) = place_of(named, section, key) else {
+            return NOT_UTF8;
+        };
+        match source.delete_nth(alloc, name, key, n) {
+            Ok(true) => OK,
+            Ok(false) => ABSENT,
+            Err(_) => NO_MEMORY,
+        }
+    })
 }
 
 /// Takes out all pairs of the key in the first section of the name. The rest is as
@@ -133,19 +135,68 @@ pub extern "C" fn bigrosk_ini_text_delete_all(
     ensures unchanged { ¬ (result ≡ ok) → pieces_of text.new ≡ pieces_of text.old }
     ensures statuses { IsTrue (is_among result (ok ∷ absent ∷ not_utf8 ∷ no_memory ∷ no_document ∷ [])) }
 {
-    let Some(source) = text.opened_mut() else {
+    let Some(tied) = text.tied() else {
         return NO_DOCUMENT;
     };
+    tied.with(|source| {
+        let Some((name, key)) = place_of(named, section, key) else {
+            return NOT_UTF8;
+        };
+        if source.get(name, key).is_none() {
+            return ABSENT;
+        }
+        match source.delete_all(alloc, name, key) {
+            Ok(_) => OK,
+            Err(_) => NO_MEMORY,
+        }
+    })
+}
+
+// Gives the key the values that C gives, in the pieces of a text; the status of that.
+fn set_all_given(
+    alloc: Global,
+    source: &mut Source<'_>,
+    write: &WriteChoice,
+    named: bool,
+    section: &[u8],
+    key: &[u8],
+    bytes: &[u8],
+    counts: &[usize],
+) -> u32
+    ensures not_utf8 { result ≡ not_utf8 →
+        ¬ (AreTexts section.now key.now × AreGiven bytes.now counts.now) }
+    ensures texts { ¬ (IsTrue (is_among result (not_utf8 ∷ no_memory ∷ [])))
+        → (AreTexts section.now key.now × AreGiven bytes.now counts.now) }
+    ensures set { result ≡ ok → Asks write.now (λ w. AreAllSet source.old.option w source.old source.new
+        (name_if named section.now) (chars key.now) (values_given bytes.now counts.now)) }
+    ensures unplain_value { result ≡ unplain_value → Asks write.now (λ w. RefusesOneValue
+        source.old.option w source.old
+        (name_if named section.now) (chars key.now) (values_given bytes.now counts.now) Value) }
+    ensures unplain_key { result ≡ unplain_key → Asks write.now (λ w. RefusesOneValue
+        source.old.option w source.old
+        (name_if named section.now) (chars key.now) (values_given bytes.now counts.now) Key) }
+    ensures unplain_name { result ≡ unplain_name → Asks write.now (λ w. RefusesOneValue
+        source.old.option w source.old
+        (name_if named section.now) (chars key.now) (values_given bytes.now counts.now) Name) }
+    ensures no_place { result ≡ no_place → Asks write.now (λ w. RefusesOneValue
+        source.old.option w source.old
+        (name_if named section.now) (chars key.now) (values_given bytes.now counts.now) NoPlace) }
+    ensures unchanged { ¬ (result ≡ ok) → source.new ≡ source.old }
+    ensures statuses { IsTrue (is_among result (ok ∷ not_utf8 ∷ no_memory
+        ∷ unplain_value ∷ unplain_key
+        ∷ no_place ∷ unplain_name ∷ [])) }
+{
     let Some((name, key)) = place_of(named, section, key) else {
         return NOT_UTF8;
     };
-
-    if source.get(name, key).is_none() {
-        return ABSENT;
-    }
-    match source.delete_all(alloc, name, key) {
-        Ok(_) => OK,
-        Err(_) => NO_MEMORY,
+    let values = match values_given(alloc, bytes, counts) {
+        Ok(values) => values,
+        Err(status) => return status,
+    };
+    let option = write.to_option();
+    match source.set_all(alloc, &option, name, key, values.as_slice()) {
+        Ok(()) => OK,
+        Err(refusal) => status_of(refusal),
     }
 }
 
@@ -192,22 +243,10 @@ pub extern "C" fn bigrosk_ini_text_set_all(
         ∷ unplain_value ∷ unplain_key
         ∷ no_place ∷ unplain_name ∷ [])) }
 {
-    let Some(source) = text.opened_mut() else {
+    let Some(tied) = text.tied() else {
         return NO_DOCUMENT;
     };
-    let Some((name, key)) = place_of(named, section, key) else {
-        return NOT_UTF8;
-    };
-
-    let values = match values_given(alloc, bytes, counts) {
-        Ok(values) => values,
-        Err(status) => return status,
-    };
-    let option = write.to_option();
-    match source.set_all(alloc, &option, name, key, values.as_slice()) {
-        Ok(()) => OK,
-        Err(refusal) => status_of(refusal),
-    }
+    tied.with(|source| set_all_given(alloc, source, write, named, section, key, bytes, counts))
 }
 
 // The text of so many bytes at the front, and what follows it and one byte more; none where that is no text,

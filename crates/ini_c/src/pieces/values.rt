@@ -7,6 +7,7 @@ ghost use Rattle.ini_edit.specs.SourceEditsAdded.{IsAddedIn, IsSetIn, RefusesAdd
 ghost use Rattle.ini_edit.specs.SourceEditsDelete.{deleted_nth};
 ghost use Rattle.ini_edit.specs.SourceEditsList.{with_sections};
 ghost use Rattle.ini_edit.specs.SourcePlaces.{pair_place};
+ghost use Rattle.ini_edit.specs.Sources.{document_in};
 ghost use Rattle.ini_edit.specs.declared.error.EditError.TheVariants.{Key, Name, NoPlace, Value};
 ghost use Rattle.ini_edit.specs.declared.source.set.LaterPairs.TheVariants.{TakenOut};
 ghost use Rattle.ini_c.specs.Held.{document_of, pieces_of};
@@ -20,8 +21,50 @@ use crate::document::Text;
 use crate::options::WriteChoice;
 use crate::refusal::status_of;
 use crate::{ABSENT, NO_DOCUMENT, NO_MEMORY, NOT_UTF8, OK};
-use ini_edit::LaterPairs;
+use ini_edit::{LaterPairs, Source};
 use std::alloc::Global;
+
+// Sets the value of the key in the pieces of a text; the status of that.
+fn set_given(
+    alloc: Global,
+    source: &mut Source<'_>,
+    write: &WriteChoice,
+    named: bool,
+    section: &[u8],
+    key: &[u8],
+    value: &[u8],
+) -> u32
+    ensures not_utf8 { result ≡ not_utf8 ↔ ¬ (AreTexts section.now key.now × IsUtf8 value.now) }
+    ensures set { result ≡ ok → Asks write.now (λ w. IsSetIn source.old.option w TakenOut
+        source.old source.new (name_if named section.now) (chars key.now) (chars value.now)) }
+    ensures document { result ≡ ok → document_in source.new
+        ≡ set_in (name_if named section.now) (chars key.now) (chars value.now) (document_in source.old) }
+    ensures unplain_value { result ≡ unplain_value → Asks write.now (λ w. RefusesToSetIn
+        source.old.option w source.old.sections
+        (name_if named section.now) (chars key.now) (chars value.now) Value) }
+    ensures unplain_key { result ≡ unplain_key → Asks write.now (λ w. RefusesToSetIn
+        source.old.option w source.old.sections
+        (name_if named section.now) (chars key.now) (chars value.now) Key) }
+    ensures unplain_name { result ≡ unplain_name → Asks write.now (λ w. RefusesToSetIn
+        source.old.option w source.old.sections
+        (name_if named section.now) (chars key.now) (chars value.now) Name) }
+    ensures no_place { result ≡ no_place → Asks write.now (λ w. RefusesToSetIn
+        source.old.option w source.old.sections
+        (name_if named section.now) (chars key.now) (chars value.now) NoPlace) }
+    ensures unchanged { ¬ (result ≡ ok) → source.new ≡ source.old }
+    ensures statuses { IsTrue (is_among result (ok ∷ not_utf8 ∷ no_memory
+        ∷ unplain_value ∷ unplain_key
+        ∷ no_place ∷ unplain_name ∷ [])) }
+{
+    let Some((name, key, value)) = pair_of(named, section, key, value) else {
+        return NOT_UTF8;
+    };
+    let option = write.to_option();
+    match source.set(alloc, &option, LaterPairs::TakenOut, name, key, value) {
+        Ok(()) => OK,
+        Err(refusal) => status_of(refusal),
+    }
+}
 
 /// Sets the value of the key: of its first pair in the first section of the name, and its later pairs
 /// there are taken out; where the section lacks the key, in a new pair, as `bigrosk_ini_text_add` puts
@@ -66,18 +109,10 @@ pub extern "C" fn bigrosk_ini_text_set(
         ∷ unplain_value ∷ unplain_key
         ∷ no_place ∷ unplain_name ∷ [])) }
 {
-    let Some(source) = text.opened_mut() else {
+    let Some(tied) = text.tied() else {
         return NO_DOCUMENT;
     };
-    let Some((name, key, value)) = pair_of(named, section, key, value) else {
-        return NOT_UTF8;
-    };
-
-    let option = write.to_option();
-    match source.set(alloc, &option, LaterPairs::TakenOut, name, key, value) {
-        Ok(()) => OK,
-        Err(refusal) => status_of(refusal),
-    }
+    tied.with(|source| set_given(alloc, source, write, named, section, key, value))
 }
 
 /// Adds a further pair, whatever pairs of the key are there: in a line of its own directly after the last
@@ -123,17 +158,18 @@ pub extern "C" fn bigrosk_ini_text_add(
         ∷ unplain_value ∷ unplain_key
         ∷ no_place ∷ unplain_name ∷ [])) }
 {
-    let Some(source) = text.opened_mut() else {
+    let Some(tied) = text.tied() else {
         return NO_DOCUMENT;
     };
-    let Some((name, key, value)) = pair_of(named, section, key, value) else {
-        return NOT_UTF8;
-    };
-
     let option = write.to_option();
-    match source.add(alloc, &option, name, key, value) {
-        Ok(()) => OK,
-        Err(refusal) => status_of(refusal),
+    let answer = tied.with(|source| {
+        let (name, key, value) = pair_of(named, section, key, value)?;
+        Some(source.add(alloc, &option, name, key, value))
+    });
+    match answer {
+        Some(Ok(())) => OK,
+        Some(Err(refusal)) => status_of(refusal),
+        None => NOT_UTF8,
     }
 }
 
@@ -161,16 +197,17 @@ pub extern "C" fn bigrosk_ini_text_delete(
     ensures unchanged { ¬ (result ≡ ok) → pieces_of text.new ≡ pieces_of text.old }
     ensures statuses { IsTrue (is_among result (ok ∷ absent ∷ not_utf8 ∷ no_memory ∷ no_document ∷ [])) }
 {
-    let Some(source) = text.opened_mut() else {
+    let Some(tied) = text.tied() else {
         return NO_DOCUMENT;
     };
-    let Some((name, key)) = place_of(named, section, key) else {
-        return NOT_UTF8;
-    };
-
-    match source.delete(alloc, name, key) {
-        Ok(true) => OK,
-        Ok(false) => ABSENT,
-        Err(_) => NO_MEMORY,
-    }
+    tied.with(|source| {
+        let Some((name, key)) = place_of(named, section, key) else {
+            return NOT_UTF8;
+        };
+        match source.delete(alloc, name, key) {
+            Ok(true) => OK,
+            Ok(false) => ABSENT,
+            Err(_) => NO_MEMORY,
+        }
+    })
 }

@@ -24,4 +24,4 @@ lent_piece p = record {
 
 abbrev pub piece_of : PairForm → PairPiece
 piece_of (Lent p) = lent_piece p
-piece_of (Kept parts) = parts.value
+piece_of (Kept kept) = kept

@@ -1,5 +1,5 @@
 -- The last parts of a pair or a header of a text in pieces, once they are written anew.
-use Rattle.std.specs.Prelude.{◌≡◌, ◌≢◌, Bool, true, false, not, ◌&&◌, if◌then◌else◌, ℕ, List, [], ◌∷◌}
+use Rattle.std.specs.Prelude.{◌≡◌, ◌≢◌, Bool, true, false, ◌&&◌, if◌then◌else◌, ℕ, List, [], ◌∷◌}
 use Rattle.std.specs.Prelude.{◌++◌, take, drop, length, chars, String, Option, None, Some, alloc_error, ⊤}
 use Rattle.std.specs.declared.alloc.Global.{Global}
 use Rattle.std.specs.Option.{option_or, unwrap_or, option_map}
@@ -28,7 +28,7 @@ use Rattle.ini_edit.specs.SourceEditsDelete.{empty_comment, ends_in_value, gap_a
 use Rattle.ini_edit.specs.SourceEditsDelete.{rest_put, to_line_feed}
 use Rattle.ini_edit.specs.SourceEditsSections.{after_new_section, section_put}
 use Rattle.ini_edit.specs.SourceLines.{after_line_end, is_empty}
-use Rattle.ini_edit.specs.SourcePlaces.{PairPlace, Place, exchanged, gap_put, is_nil, last_before_gap}
+use Rattle.ini_edit.specs.SourcePlaces.{PairPlace, Place, exchanged, gap_put, last_before_gap}
 use Rattle.ini_edit.specs.SourcePlaces.{last_changed}
 use Rattle.ini_edit.specs.SourcePlaces.{last_gap, nth_place}
 use Rattle.ini_edit.specs.SourcePlaces.{last_word, with_after, with_end, with_last_word}

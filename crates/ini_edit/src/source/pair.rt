@@ -9,6 +9,7 @@ ghost use Rattle.ini_edit.specs.Sources.{pair_text, placed_piece};
 
 use crate::append::push_text;
 use crate::key::push_key;
+use crate::source::pair::kept::KeptParts;
 use crate::source::pair::lent::LentPair;
 use crate::source::pair::own::PairParts;
 use crate::source::sending::{put_before, put_both};
@@ -17,11 +18,11 @@ use std::alloc::Global;
 use std::io::Write;
 use std::marker::Model;
 
+mod changes;
 pub(crate) mod ends;
-mod kept;
+pub(crate) mod kept;
 pub(crate) mod lent;
 pub(crate) mod own;
-pub(crate) mod owned;
 mod parts;
 
 /// A pair of a `Source`: its key and its value, its source, and what follows that up to the next pair or
@@ -35,7 +36,7 @@ pub struct SourcePair<'a> {
 #[derive(Debug, Drop)]
 pub(crate) enum PairForm<'a> {
     Lent(LentPair<'a>),
-    Kept(Box<PairParts<'a>>),
+    Kept(KeptParts<'a>),
 }
 
 impl<'a> Model for SourcePair<'a> {
@@ -67,7 +68,7 @@ impl<'a> SourcePair<'a> {
         ensures only { IsOkUnless result (Error.Memory alloc_error) }
     {
         Ok(SourcePair {
-            form: PairForm::Kept(parts.boxed(alloc)?),
+            form: PairForm::Kept(KeptParts::new(alloc, parts)?),
         })
     }
 
@@ -77,7 +78,7 @@ impl<'a> SourcePair<'a> {
     {
         match &self.form {
             PairForm::Lent(pair) => pair.key,
-            PairForm::Kept(parts) => parts.key(),
+            PairForm::Kept(kept) => kept.parts().key(),
         }
     }
 
@@ -87,7 +88,7 @@ impl<'a> SourcePair<'a> {
     {
         match &self.form {
             PairForm::Lent(pair) => pair.raw_value,
-            PairForm::Kept(parts) => parts.value(),
+            PairForm::Kept(kept) => kept.parts().value(),
         }
     }
 
@@ -107,9 +108,9 @@ impl<'a> SourcePair<'a> {
         let mut raw_key = String::new(alloc);
         push_key(alloc, &mut raw_key, self.raw_key(), key, policy, read)?;
         let key = String::from_str(alloc, key)?;
-        let mut parts = self.take_parts(alloc)?;
+        let (mut parts, room) = self.take_parts(alloc)?;
         parts.put_key(raw_key, key);
-        self.put_parts(parts);
+        self.put_parts(parts, room);
         Ok(())
     }
 

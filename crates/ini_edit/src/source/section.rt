@@ -30,7 +30,6 @@ mod comments;
 mod delete;
 mod ends;
 mod insert;
-mod owned;
 mod parts;
 
 /// A section of a `Source`: its name, and its pairs in order.

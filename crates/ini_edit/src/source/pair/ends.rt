@@ -23,7 +23,7 @@ use crate::append::{push, push_text};
 use crate::glue::{TextEnd, text_end};
 use crate::source::lines::{after_line_end, is_empty, last_or, line_end_at_end};
 use crate::source::pair::SourcePair;
-use crate::source::pair::own::PairParts;
+use crate::source::pair::kept::KeptParts;
 use crate::source::quiet_lines::{ends_line, quiet_lines_at_end};
 use ini_text::{Error, ParseOption, front_before, is_blank, is_line_end, past_note, split_first};
 use std::alloc::Global;
@@ -47,7 +47,7 @@ pub(crate) struct NewEnd<'a> {
     pub(crate) trailing_lines: String,
     pub(crate) after: String,
     /// Room for the pair's parts, where it has none.
-    pub(crate) room: Box<PairParts<'a>>,
+    pub(crate) room: KeptParts<'a>,
 }
 
 impl<'a> SourcePair<'a> {
@@ -106,7 +106,7 @@ impl<'a> SourcePair<'a> {
     {
         let (last_word, own) = self.ended_lines(alloc, line_end, read)?;
         let nothing = String::new(alloc);
-        let room = PairParts::room(alloc)?;
+        let room = KeptParts::room(alloc)?;
         if self.is_multiline(read) {
             return Ok(NewEnd {
                 last_word,
@@ -206,7 +206,7 @@ impl<'a> SourcePair<'a> {
             push_text(&mut after, lines)?;
         }
         push_text(&mut after, gap)?;
-        let room = PairParts::room(alloc)?;
+        let room = KeptParts::room(alloc)?;
         Ok(NewEnd {
             last_word: None,
             trailing_lines,
@@ -250,10 +250,10 @@ impl<'a> SourcePair<'a> {
         let key = self.closed_word(alloc, read)?;
         let note = self.note_after(alloc, read)?;
         let (trailing_lines, after) = self.end_of_value(alloc, is_taken, read)?;
-        let mut parts = self.take_parts(alloc)?;
+        let (mut parts, room) = self.take_parts(alloc)?;
         parts.put_first_value(key, raw_value, value, note);
         parts.put_end(trailing_lines, after);
-        self.put_parts(parts);
+        self.put_parts(parts, room);
         Ok(())
     }
 

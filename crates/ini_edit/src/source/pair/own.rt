@@ -16,7 +16,7 @@ use crate::append::push_more;
 use crate::source::lines::is_empty;
 use crate::source::pair::lent::LentPair;
 use ini_text::{Error, ParseOption, PlacedPair};
-use std::alloc::{AllocError, Global};
+use std::alloc::Global;
 use std::borrow::CowStr;
 use std::marker::Model;
 
@@ -135,29 +135,9 @@ impl<'a> PairParts<'a> {
         }
     }
 
-    /// The parts in a box.
-    pub(crate) fn boxed(self, alloc: Global) -> Result<Box<PairParts<'a>>, Error>
-        ensures boxed { IfOk result (λ parts. parts.value ≡ self.entry) }
-        ensures only { IsOkUnless result (Error.Memory alloc_error) }
-    {
-        match Box::new(alloc, self) {
-            Ok(parts) => Ok(parts),
-            Err(_) => Err(Error::Memory(AllocError)),
-        }
-    }
-
-    /// Room for the parts of a pair that has none.
-    pub(crate) fn room(alloc: Global) -> Result<Box<PairParts<'a>>, Error>
-        ensures only { IsOkUnless result (Error.Memory alloc_error) }
-    {
-        PairParts::of_lent(LentPair::nothing()).boxed(alloc)
-    }
-
-    /// The same in place of what the room has.
-    pub(crate) fn put_lent(&mut self, pair: LentPair<'a>)
-        ensures { self.new ≡ lent_piece pair.entry }
-    {
-        *self = PairParts::of_lent(pair);
+    /// Those of a pair without a character.
+    pub(crate) fn nothing() -> PairParts<'static> {
+        PairParts::of_lent(LentPair::nothing())
     }
 
     pub(crate) fn key(&self) -> &str

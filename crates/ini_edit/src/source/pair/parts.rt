@@ -22,7 +22,7 @@ impl<'a> SourcePair<'a> {
     {
         match &self.form {
             PairForm::Lent(pair) => pair.raw_key,
-            PairForm::Kept(parts) => parts.raw_key(),
+            PairForm::Kept(kept) => kept.parts().raw_key(),
         }
     }
 
@@ -31,7 +31,7 @@ impl<'a> SourcePair<'a> {
     {
         match &self.form {
             PairForm::Lent(pair) => pair.separator,
-            PairForm::Kept(parts) => parts.separator(),
+            PairForm::Kept(kept) => kept.parts().separator(),
         }
     }
 
@@ -54,7 +54,7 @@ impl<'a> SourcePair<'a> {
     {
         match &self.form {
             PairForm::Lent(pair) => pair.space_before,
-            PairForm::Kept(parts) => parts.space_before(),
+            PairForm::Kept(kept) => kept.parts().space_before(),
         }
     }
 
@@ -63,7 +63,7 @@ impl<'a> SourcePair<'a> {
     {
         match &self.form {
             PairForm::Lent(pair) => pair.raw_value,
-            PairForm::Kept(parts) => parts.raw_value(),
+            PairForm::Kept(kept) => kept.parts().raw_value(),
         }
     }
 
@@ -72,7 +72,7 @@ impl<'a> SourcePair<'a> {
     {
         match &self.form {
             PairForm::Lent(_) => "",
-            PairForm::Kept(parts) => parts.space_after(),
+            PairForm::Kept(kept) => kept.parts().space_after(),
         }
     }
 
@@ -81,7 +81,7 @@ impl<'a> SourcePair<'a> {
     {
         match &self.form {
             PairForm::Lent(_) => "",
-            PairForm::Kept(parts) => parts.note(),
+            PairForm::Kept(kept) => kept.parts().note(),
         }
     }
 
@@ -90,7 +90,7 @@ impl<'a> SourcePair<'a> {
     {
         match &self.form {
             PairForm::Lent(pair) => pair.trailing_lines,
-            PairForm::Kept(parts) => parts.trailing_lines(),
+            PairForm::Kept(kept) => kept.parts().trailing_lines(),
         }
     }
 
@@ -99,7 +99,7 @@ impl<'a> SourcePair<'a> {
     {
         match &self.form {
             PairForm::Lent(pair) => pair.after,
-            PairForm::Kept(parts) => parts.after(),
+            PairForm::Kept(kept) => kept.parts().after(),
         }
     }
 
@@ -212,7 +212,7 @@ impl<'a> SourcePair<'a> {
             PairForm::Lent(pair) => Ok(SourcePair {
                 form: PairForm::Lent(*pair),
             }),
-            PairForm::Kept(parts) => SourcePair::kept(alloc, parts.copy()?),
+            PairForm::Kept(kept) => SourcePair::kept(alloc, kept.parts().copy()?),
         }
     }
 }

@@ -20,7 +20,7 @@ use crate::append::{push, push_text};
 use crate::source::lines::{comments_at_end, is_empty, last_or};
 use crate::source::pair::SourcePair;
 use crate::source::pair::ends::NewEnd;
-use crate::source::pair::own::PairParts;
+use crate::source::pair::kept::KeptParts;
 use crate::source::section::SourceSection;
 use ini_text::{Error, LineSeparator, ParseOption, front_before, is_same_text, split_first};
 use std::alloc::Global;
@@ -112,7 +112,7 @@ impl<'a> SourceSection<'a> {
         }
         push_text(&mut after, comments)?;
         push_text(&mut after, line_end_lacking(comments, end))?;
-        let room = PairParts::room(alloc)?;
+        let room = KeptParts::room(alloc)?;
         Ok(NewEnd {
             last_word: None,
             trailing_lines,

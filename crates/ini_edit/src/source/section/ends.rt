@@ -26,7 +26,7 @@ use crate::source::lines::{
     line_end_at_end,
 };
 use crate::source::pair::ends::NewEnd;
-use crate::source::pair::own::PairParts;
+use crate::source::pair::kept::KeptParts;
 use crate::source::place::cut_after;
 use crate::source::section::SourceSection;
 use crate::text::begins_with_comment;
@@ -183,7 +183,7 @@ impl<'a> SourceSection<'a> {
             push_text(&mut after, lines)?;
         }
         push_text(&mut after, rest)?;
-        let room = PairParts::room(alloc)?;
+        let room = KeptParts::room(alloc)?;
         Ok(NewEnd {
             last_word: None,
             trailing_lines,

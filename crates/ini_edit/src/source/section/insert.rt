@@ -19,7 +19,7 @@ use crate::error::EditError;
 use crate::source::lines::{comments_at_end, is_empty, last_or};
 use crate::source::pair::SourcePair;
 use crate::source::pair::ends::{NewEnd, PairEnd, after_empty_comment};
-use crate::source::pair::own::PairParts;
+use crate::source::pair::kept::KeptParts;
 use crate::source::place::{GapPlace, place_for_first};
 use crate::source::section::SourceSection;
 use crate::source::written::{NewPair, is_indented};
@@ -171,7 +171,7 @@ impl<'a> SourceSection<'a> {
         let lines = ended(alloc, end.as_str(), "")?;
         let is_indented = may_be_indented(read, index, kept);
         let pair = pair.before(alloc, is_indented, lines, comments, read)?;
-        let room = PairParts::room(alloc)?;
+        let room = KeptParts::room(alloc)?;
         let new = NewEnd {
             last_word: None,
             trailing_lines,

@@ -18,7 +18,7 @@ use crate::append::{push_more, push_text};
 use crate::source::lines::{LineEndSearch, is_empty, last_or};
 use crate::source::pair::SourcePair;
 use crate::source::pair::ends::NewEnd;
-use crate::source::pair::own::PairParts;
+use crate::source::pair::kept::KeptParts;
 use crate::source::section::SourceSection;
 use crate::source::written::{PairStyle, is_indented};
 use ini_text::{Error, ParseOption, is_line_end, is_same_text};
@@ -215,7 +215,7 @@ impl<'a> SourceSection<'a> {
         let mut after = String::from_str(alloc, self.after())?;
         push_text(&mut after, lines)?;
         push_text(&mut after, gap)?;
-        let room = PairParts::room(alloc)?;
+        let room = KeptParts::room(alloc)?;
         Ok(NewEnd {
             last_word: None,
             trailing_lines: String::new(alloc),

@@ -1,6 +1,6 @@
 -- `closed` makes a handle that owns nothing.
 use Rattle.std.proofs.Common.{List, [], ◌∷◌, ◌++◌, refl, sym, subst}
-use mathlib.Core.Bool.{true, false}
+use mathlib.Core.Bool.{false}
 use seplogic.Ra.Ura.{Ura}
 use mir.Val.{Val, vstruct, of_list}
 use base.Logic.{SProp, ent, emp}
@@ -34,28 +34,12 @@ use Rattle.std.proofs.Common.{lit<}
 use Rattle.core.proofs.alloc.Calls.{handle_tells, α}
 use Rattle.std_alloc.proofs.ResultValues.{and_tt}
 use Rattle.std_heap.specs.contracts.Global as Heap
-use Rattle.ini_text.specs.declared.option.LoneLine.TheVariants.{RunsOn}
+use Rattle.std.specs.Prelude.{None}
 use mir.Val.{has_ty}
 
 -- what a closed handle is seen to keep, whatever it is
 abbrev no_kept : Kept
-no_kept = record {
-  document = [];
-  text = record {
-    option = record {
-      enabled_quote = true;
-      enabled_escape = true;
-      enabled_indented_mutiline_value = false;
-      enabled_preserve_key_leading_whitespace = false;
-      enabled_brackets_in_section_names = false;
-      enabled_raw_backslash = false;
-      enabled_indented_comment = false;
-      enabled_inline_comment = false;
-      line_without_separator = RunsOn;
-    };
-    sections = [];
-  };
-}
+no_kept = record { document = []; text = None }
 
 abbrev stayed : Stays (F.ended).signature.params (F.ended).kept
 stayed = (stay_dropped (plain (λ _. Heap.the_row)) yes, tt)

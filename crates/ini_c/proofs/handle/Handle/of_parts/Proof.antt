@@ -17,7 +17,7 @@ use types.Kit.{suffices, done}
 use types.Part.{whole, sub, agg}
 use types.Run.{stop, fld, no_more, and_then, of_opd, returns, enter}
 use types.ByLocal.{alloc_all, pass_all, free_all, look_at, get, get_in, sets}
-use denote.Exit.{no}
+use denote.Exit.{yes}
 use denote.RawPtr.{block_ptr}
 use denote.Signature.{plain}
 use denote.Steps.{nothing}
@@ -33,7 +33,7 @@ use Rattle.ini_c.proofs.handle.Handle.of_parts.Statement as stated
 use Rattle.ini_c.proofs.handle.Handle.of_parts.Code as code
 
 abbrev stayed : Stays (F.ended).signature.params (F.ended).kept
-stayed = (stay_dropped (plain (λ _. Loose)) no, tt)
+stayed = (stay_dropped (plain (λ _. Loose)) yes, tt)
 
 module _ {M : Type 1} {𝓤 : Ura M} (𝓛 : Logic 𝓤) (at_mem : Memory → SProp 𝓤) (run : Routine → Fun 𝓤)
     (𝓣 : Tables 𝓤 𝓛.H) where
@@ -72,7 +72,7 @@ of_parts_spec 𝓤 𝓛 𝓜 𝓡 wired =
     let 𝓣 : Tables 𝓤 𝓛.H = tables_of 𝓤 𝓛.H 𝓜 (tables 𝓤 𝓛.H 𝓜 𝓡 𝓡.env) in
     entered 𝓤 𝓛.H (triple_of 𝓛 F.signature (F.spec 𝓛 𝓜.mem 𝓡.returns)) 𝓣.C 𝓣.Λ #self code.function
     (code.unfolded 𝓤 𝓛.H 𝓜 𝓡 wired)
-    (walk_Meets 𝓛 F.ended stayed (Goes-dropped 𝓛 0 (plain (λ _. Loose)) no (λ κs x f. refl), tt)
+    (walk_Meets 𝓛 F.ended stayed (Goes-dropped 𝓛 0 (plain (λ _. Loose)) yes (λ κs x f. refl), tt)
     (F.clauses 𝓛 𝓜.mem 𝓡.returns) (WpFn 𝓤 𝓛.H 𝓣.C 𝓣.Λ code.function)
     (WpFn-mono 𝓤 𝓛.H 𝓛.laws 𝓣 code.function)
     (walk 𝓛 𝓜.mem 𝓡.returns 𝓣))

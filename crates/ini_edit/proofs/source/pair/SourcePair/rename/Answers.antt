@@ -15,7 +15,7 @@ returns-clause-renamed c =
     let source = put.indent ++ (escaped c.args.policy other ++ put.pad) in
     let new = with_key (string_text c.push_key.new.out) (string_text c.in_ok-key.key) in
     subst (λ q. RenamesPair c.args.read c.args.policy c.args.self.now q other)
-    (sym (c.put_parts.ensures ∙ c.put_key.ensures ∙ ap new (c.deref_mut.ensures.value ∙ c.in_ok-parts.ensures.taken)))
+    (sym (c.put_parts.ensures ∙ c.put_key.ensures ∙ ap new c.in_ok-parts.ensures.taken))
     (pair_renamed refl
     (subst (λ t. HasEdges c.args.read t put.indent put.pad) c.raw_key.ensures put.edges)
     (put.is_new ∙ ap (λ t. t ++ source) (ap chars c.new-raw_key.ensures.bytes ∙ chars-nil))

@@ -1,4 +1,4 @@
-use Rattle.std.proofs.Common.{◌∙◌, [], ◌∷◌, None, Some, ap, ap₂, chars, if◌then◌else◌, sym}
+use Rattle.std.proofs.Common.{◌∙◌, [], ◌∷◌, Some, ap, ap₂, chars, if◌then◌else◌, sym}
 use Rattle.std.proofs.lemmas.Str.{chars-nil}
 use Rattle.ini.specs.Texts.{Text}
 use Rattle.ini_text.specs.Grammar.CharacterKinds.{equals, space}
