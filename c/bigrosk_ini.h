@@ -56,7 +56,7 @@ enum bigrosk_ini_status {
     BIGROSK_INI_NO_PLACE = 9,      /* a new line can be put into the text nowhere */
     BIGROSK_INI_UNPLAIN_NAME = 10, /* the same of the name of a section, which an edit of a text would open or rename */
     BIGROSK_INI_THERE = 11,        /* a section that would be new is there */
-    BIGROSK_INI_UNKNOWN_OPTION = 12 /* a number of a struct bigrosk_ini_reading stands for no option */
+    BIGROSK_INI_UNKNOWN_OPTION = 12 /* a number of a struct bigrosk_ini_reading or bigrosk_ini_lookup stands for no option */
 };
 
 /* What only the functions of this header answer. */
@@ -155,6 +155,27 @@ struct bigrosk_ini_reading {
 };
 #define BIGROSK_INI_READING_DEFAULT \
     { sizeof(struct bigrosk_ini_reading), true, true, false, false, false, false, BIGROSK_INI_LONE_LINES_RUN_ON, 0, 0 }
+
+/* Which sections of a name are looked at, and which value of a key counts. */
+enum bigrosk_ini_section_rule {
+    BIGROSK_INI_SECTIONS_FIRST = 0, /* the first one alone */
+    BIGROSK_INI_SECTIONS_JOINED = 1 /* all of them, as if they were one */
+};
+enum bigrosk_ini_value_rule {
+    BIGROSK_INI_VALUES_FIRST = 0,
+    BIGROSK_INI_VALUES_LAST = 1
+};
+
+/* By which rule settings are looked up. It begins as BIGROSK_INI_LOOKUP_DEFAULT, the rule of all calls that take none; the calls
+ * whose names end in _under take it. */
+struct bigrosk_ini_lookup {
+    uint8_t size;        /* of this struct, as the macro sets it: by it a later library knows what the caller has */
+    uint8_t sections;    /* enum bigrosk_ini_section_rule; any other number is refused */
+    uint8_t values;      /* enum bigrosk_ini_value_rule; any other number is refused */
+    uint8_t ignore_case; /* with 1, the case of A to Z tells neither keys nor names apart; 0 where it does; no other number */
+};
+#define BIGROSK_INI_LOOKUP_DEFAULT \
+    { sizeof(struct bigrosk_ini_lookup), BIGROSK_INI_SECTIONS_FIRST, BIGROSK_INI_VALUES_FIRST, 0 }
 
 /* Which characters of names, keys and values are escaped. */
 enum bigrosk_ini_policy {
@@ -298,13 +319,17 @@ bool bigrosk_ini_is_plain_by(struct bigrosk_ini_document *document, const struct
  * back. The names: crate (the default options), strict (these, and lone lines are refused), aws, desktop, editorconfig,
  * fail2ban, freetds, git, hg, kde, mysql, npm, odbc, openssl, openttd, php, pulseaudio, python, qt, samba, sssd, supervisor,
  * systemd, uwsgi, windows, xrdp. The calls look up as ever: the first section and the first pair count, and case tells names
- * apart, whatever the dialect's programs do. OK; ABSENT where no dialect has the name; NOT_UTF8. With anything but OK the
+ * apart, whatever the dialect's programs do, but for those that end in _under. OK; ABSENT where no dialect has the name; NOT_UTF8. With anything but OK the
  * options are as they were. The first call knows of no option that came later; the second one leaves the size as it is, and
  * what that doesn't reach. */
 uint32_t bigrosk_ini_dialect(const uint8_t *name, size_t name_count, struct bigrosk_ini_read_option *read,
                              struct bigrosk_ini_write_option *write);
 uint32_t bigrosk_ini_dialect_by(const uint8_t *name, size_t name_count, struct bigrosk_ini_reading *reading,
                                 struct bigrosk_ini_write_option *write);
+
+/* Fills the rule in by the name of a dialect: how its programs look up. The size stays.
+ * OK; ABSENT where no dialect has the name; NOT_UTF8. With anything but OK the rule is as it was. */
+uint32_t bigrosk_ini_dialect_lookup(const uint8_t *name, size_t name_count, struct bigrosk_ini_lookup *lookup);
 
 /* The next six edit a text itself, and keep every byte that the edit is not about: comments, blank lines, alignment, line ends.
  * No document is used: the text comes in as bytes, and the new one is copied into `out`, and a 0 after it; count says how many
@@ -523,6 +548,24 @@ uint32_t bigrosk_ini_text_merge3(struct bigrosk_ini_text *base, struct bigrosk_i
                                  struct bigrosk_ini_text *theirs, const struct bigrosk_ini_write_option *write,
                                  bool take_ours, size_t *refused);
 
+/* The same four under a rule: also UNKNOWN_OPTION, before anything else. A setting has the value that a look-up under the rule
+ * finds. What is listed has each name and each key where it first comes, in small letters where case is ignored. A change sets
+ * the pair that counts, and where the rule is not the default one other pairs of the key stay; a change without a value to have takes out
+ * all pairs of the key that are looked at. */
+uint32_t bigrosk_ini_text_diff_under(struct bigrosk_ini_text *from, struct bigrosk_ini_text *to,
+                                     const struct bigrosk_ini_lookup *lookup, uint8_t *bytes, size_t bytes_room,
+                                     size_t *counts, size_t counts_room, struct bigrosk_ini_sizes *sizes);
+uint32_t bigrosk_ini_text_apply_under(struct bigrosk_ini_text *text, const struct bigrosk_ini_lookup *lookup,
+                                      const struct bigrosk_ini_write_option *write, const uint8_t *bytes,
+                                      size_t bytes_count, const size_t *counts, size_t counts_count, size_t *refused);
+uint32_t bigrosk_ini_text_conflicts_under(struct bigrosk_ini_text *base, struct bigrosk_ini_text *ours,
+                                          struct bigrosk_ini_text *theirs, const struct bigrosk_ini_lookup *lookup,
+                                          uint8_t *bytes, size_t bytes_room, size_t *counts, size_t counts_room,
+                                          struct bigrosk_ini_sizes *sizes);
+uint32_t bigrosk_ini_text_merge3_under(struct bigrosk_ini_text *base, struct bigrosk_ini_text *ours,
+                                       struct bigrosk_ini_text *theirs, const struct bigrosk_ini_lookup *lookup,
+                                       const struct bigrosk_ini_write_option *write, bool take_ours, size_t *refused);
+
 /* How many bytes of the text are a mark at its front: 3 or 0. Plain C. */
 static inline size_t bigrosk_ini_mark(const uint8_t *text, size_t text_count)
 {
@@ -555,6 +598,11 @@ static inline uint32_t bigrosk_ini_dialect_by_str(const char *name, struct bigro
                                                   struct bigrosk_ini_write_option *write)
 {
     return bigrosk_ini_dialect_by(bigrosk_ini_bytes(name), bigrosk_ini_count(name), reading, write);
+}
+
+static inline uint32_t bigrosk_ini_dialect_lookup_str(const char *name, struct bigrosk_ini_lookup *lookup)
+{
+    return bigrosk_ini_dialect_lookup(bigrosk_ini_bytes(name), bigrosk_ini_count(name), lookup);
 }
 
 static inline uint32_t bigrosk_ini_get_str(struct bigrosk_ini_document *document, const char *section, const char *key,

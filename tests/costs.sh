@@ -40,16 +40,23 @@ grows_no_faster() {
     at_most "$1, twice the size" "${two:+$((two - calls_own))}" "${one:+$(((one - calls_own) * 5 / 2))}"
 }
 
-# doubles NAME STATUS MAKE N WORD ..: of the text that MAKE gives for twice N the program takes at most 2.5 times what it takes
-# for N
-doubles() {
-    name=$1 status=$2 make=$3 n=$4
-    shift 4
+# grows NAME TIMES STATUS MAKE N WORD ..: of the text that MAKE gives for N so many times the program takes at most 1.25 times as
+# many times what it takes for N
+grows() {
+    name=$1 times=$2 status=$3 make=$4 n=$5
+    shift 5
     "$make" "$n" >"$room/in"
     one=$(instructions "$status" "$tool" "$@")
-    "$make" $((2 * n)) >"$room/in"
-    two=$(instructions "$status" "$tool" "$@")
-    at_most "$name, twice the size" "${two:+$((two - own))}" "${one:+$(((one - own) * 5 / 2))}"
+    "$make" $((times * n)) >"$room/in"
+    more=$(instructions "$status" "$tool" "$@")
+    at_most "$name, $times times the size" "${more:+$((more - own))}" "${one:+$(((one - own) * times * 5 / 4))}"
+}
+
+# doubles NAME STATUS MAKE N WORD ..: the same of twice N
+doubles() {
+    called=$1
+    shift
+    grows "$called" 2 "$@"
 }
 
 pairs() { awk -v n="$1" 'BEGIN { for (i = 0; i < n; i++) printf "key%d = value %d\n", i, i }'; }
@@ -62,6 +69,7 @@ escapes() { awk -v n="$1" 'BEGIN { printf "k = "; for (i = 0; i < n; i++) printf
 notes() { awk -v n="$1" 'BEGIN { for (i = 0; i < n; i++) printf "key%d = value ; note %d\n", i, i }'; }
 # and beside them, in `other`, the same with each hundredth value changed
 compared() { pairs "$1" && pairs "$1" | awk 'NR % 100 == 0 { $0 = $0 "!" } 1' >"$room/other"; }
+repeated_key() { pairs "$1" | sed 's/^key[0-9]*/k/'; pairs $(($1 + 1)) | sed 's/^key[0-9]*/k/' >"$room/other"; }
 joined() { repeated "$1" && repeated $(($1 + 1)) >"$room/other"; }
 marks() { awk -v n="$1" 'BEGIN { printf "k = "; for (i = 0; i < n; i++) printf "a;b\\;"; print "" }'; }
 
@@ -82,7 +90,10 @@ own_of_tool=$own own=$(instructions 0 "$file" format -) of_texts=$tool tool=$fil
 doubles 'separators below each other' 0 pairs 4000 format --align -
 doubles 'pairs sorted by key' 0 pairs 4000 format --sort keys -
 doubles 'sections sorted by name' 0 sections 4000 format --sort sections -
-doubles 'what differs' 1 compared 4000 diff - "$room/other"
+grows 'what differs' 10 1 compared 10000 diff - "$room/other"
+doubles 'which lists differ' 1 compared 4000 diff --lists - "$room/other"
+doubles 'which lists of one key differ' 1 repeated_key 4000 diff --lists - "$room/other"
+doubles 'which comments differ' 1 compared 4000 diff --comments - "$room/other"
 doubles 'what differs, by a rule' 1 compared 4000 --like git diff - "$room/other"
 doubles 'what differs where sections are joined' 1 joined 4000 --like git diff - "$room/other"
 own=$own_of_tool tool=$of_texts

@@ -53,7 +53,7 @@ if has bash completions; then
     offered 'add add-section apply check comment delete delete-section diff format get keys layers list merge merge3 rename-key rename-section rewrite sections set uncomment unset-all ' ini_file ''
     offered 'one two one.ini ' ini_file get ''
     offered '--existing ' ini_file set --e
-    offered '-- --color --force --format --in-place --output --verbose --wait ' ini_file diff --
+    offered '-- --color --comments --force --format --in-place --lists --output --verbose --wait ' ini_file diff --
     offered 'edits json lines ' ini_file diff --format ''
     offered 'always auto never ' ini_file diff --color ''
     offered 'both keys sections ' ini_file format --sort ''

@@ -46,7 +46,7 @@ is 'the version of the changes' "$version" "$(sed -n 's/^## \([0-9.]*\)$/\1/p' "
 is 'links' "libbigrosk_ini.so.$major libbigrosk_ini.so.$version" \
     "$(readlink "$shared") $(readlink "$shared.$major")"
 calls=$(sed -n 's/^[a-z0-9_]* \(bigrosk_ini_[a-z0-9_]*\)(.*/\1/p' "$it/include/bigrosk_ini.h" | sort)
-is 'number of the header'\''s calls' 56 "$(line $calls | wc -w)"
+is 'number of the header'\''s calls' 61 "$(line $calls | wc -w)"
 if has readelf 'soname and what is needed'; then
     said=$(readelf -dW "$shared")
     is 'soname' "libbigrosk_ini.so.$major" "$(echo "$said" | sed -n 's/.*(SONAME).*\[\(.*\)\]/\1/p')"

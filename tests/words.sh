@@ -93,9 +93,9 @@ check --format sh settings.ini|sh is no form; --format takes json, sarif or gith
 list --format github settings.ini|github is no form; --format takes lines, json, sh or ini
 get --format ini settings.ini k|ini is no form; --format takes lines, json or sh
 keys --format json settings.ini|keys doesn't take --format, but --null --section --output --in-place --force --wait --verbose
-get --format json --null settings.ini k|--format writes one form, so --null, --origin and --type have no place
-list --format json --origin settings.ini|--format writes one form, so --null, --origin and --type have no place
-get --format sh --type int settings.ini k|--format writes one form, so --null, --origin and --type have no place
+get --format json --null settings.ini k|--format writes one form, so --null, --origin, --type and --comments have no place
+list --format json --origin settings.ini|--format writes one form, so --null, --origin, --type and --comments have no place
+get --format sh --type int settings.ini k|--format writes one form, so --null, --origin, --type and --comments have no place
 rewrite settings.ini more|more is one word too many: rewrite takes FILE
 rewrite --check settings.ini|rewrite doesn't take --check, but --separator --dry-run --output --in-place --force --wait --verbose
 format|FILE is missing: format takes FILE ..
@@ -134,12 +134,12 @@ layers -n settings.ini|layers doesn't take --dry-run, but --origin --null --sepa
 layers --null settings.ini|layers takes --null with --origin alone
 layers --origin --separator : settings.ini|--origin writes no document, so --separator has no place
 keys --origin settings.ini|keys doesn't take --origin, but --null --section --output --in-place --force --wait --verbose
-diff --origin settings.ini other.ini|diff doesn't take --origin, but --format --color --output --in-place --force --wait --verbose
+diff --origin settings.ini other.ini|diff doesn't take --origin, but --format --color --lists --comments --output --in-place --force --wait --verbose
 layers --force settings.ini|layers takes --force with --output alone
 layers -s server settings.ini|layers has no section, so --section server has no place
 diff settings.ini|OTHER is missing: diff takes FILE OTHER
 diff - -|- is standard input, which can't be read twice
-diff -n settings.ini settings.ini|diff doesn't take --dry-run, but --format --color --output --in-place --force --wait --verbose
+diff -n settings.ini settings.ini|diff doesn't take --dry-run, but --format --color --lists --comments --output --in-place --force --wait --verbose
 diff --verbose settings.ini settings.ini|diff takes --verbose with --output alone
 diff settings.ini settings.ini more|more is one word too many: diff takes FILE OTHER
 diff --format xml settings.ini settings.ini|xml is no form; --format takes lines, json or edits
@@ -148,12 +148,16 @@ list --format edits settings.ini|edits is no form; --format takes lines, json, s
 set --format lines settings.ini k v|set doesn't take --format, but --all --existing --separator --section --dry-run --output --in-place --force --wait --verbose
 diff --color=red settings.ini settings.ini|red is no colour; --color takes auto, always or never
 diff settings.ini settings.ini --color|--color takes WHEN
+diff --comments --format json settings.ini settings.ini|--format writes one form, so --null, --origin, --type and --comments have no place
+diff --lists=1 settings.ini settings.ini|--lists takes no text
+apply --comments settings.ini|apply doesn't take --comments, but --lists --reverse --dry-run --output --in-place --force --wait --verbose
+merge --lists settings.ini settings.ini|merge doesn't take --lists, but --dry-run --output --in-place --force --wait --verbose
 list --color always settings.ini|list doesn't take --color, but --origin --null --format --output --in-place --force --wait --verbose
 apply|FILE is missing: apply takes FILE [EDITS]
 apply -|- is standard input, which can't be read twice
 apply - -|- is standard input, which can't be read twice
 apply settings.ini edits more|more is one word too many: apply takes FILE [EDITS]
-apply --format edits settings.ini|apply doesn't take --format, but --reverse --dry-run --output --in-place --force --wait --verbose
+apply --format edits settings.ini|apply doesn't take --format, but --lists --reverse --dry-run --output --in-place --force --wait --verbose
 merge3 settings.ini - -|- is standard input, which can't be read twice
 merge3 settings.ini settings.ini|THEIRS is missing: merge3 takes BASE OURS THEIRS
 merge3 --force settings.ini settings.ini settings.ini|merge3 takes --force with --output alone

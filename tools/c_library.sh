@@ -70,7 +70,7 @@ build_over() {
     for it in $below; do set -- "$@" -L "dependency=$top/crates/$it/out/rlib"; done
     mkdir -p "$top/crates/ini_c/out"
     (cd "$top/crates/ini_c" && "$kit/bin/rattle" build "$@" --antt-project "$kit/rattle/logic/antt-project.json" \
-        --logic-built "$kit/logic_built" --links ini_c= --crate-type staticlib --jobs 2 --toolchain "$kit/toolchain" -o "$built")
+        --logic-built "$kit/logic_built" --links ini_c= --crate-type staticlib --jobs "${RT_JOBS:-2}" --toolchain "$kit/toolchain" -o "$built")
 }
 
 if ! is_built; then

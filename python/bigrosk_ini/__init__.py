@@ -9,6 +9,7 @@ A settings file whose comments and layout stay, with the habits of configparser:
     changes = diff(load("old.ini"), settings)   # [Change(section="server", key="port", old="80", new="443")]
     apply(changes, other)               # all or none
     merge3(base, ours, theirs)          # what ours changed in base is made in theirs
+    diff(base, ours, dialect="git")     # sections joined, the last value counts, whatever the case
 
 and a document, of which its text keeps nothing but sections and pairs:
 
@@ -49,17 +50,17 @@ from __future__ import annotations
 import ctypes
 from collections.abc import MutableMapping
 
-from ._calls import BROKEN, KINDS, NO_ROOM, Broken, Fault, FirstFive, Handle, Listing, ReadOption, RLock
-from ._calls import Unwritable, WriteOption, bytes_of, copied_out, dialect, help_for, is_done, library
+from ._calls import BROKEN, KINDS, NO_ROOM, Broken, Fault, FirstFive, Handle, Listing, Lookup, ReadOption
+from ._calls import RLock, Unwritable, WriteOption, bytes_of, copied_out, dialect, help_for, is_done, library
 from ._calls import options_of, raise_refused, shown, text_words, words_of
 from ._differences import Change, Conflict, Conflicting, apply, diff, merge3
 from ._refusals import Error, Mistyped, NoOption, NoSection, SectionThere
 from ._settings import Settings, SettingsSection, load
 
 __all__ = [
-    "KINDS", "Broken", "Change", "Conflict", "Conflicting", "Document", "Error", "Mistyped", "NoOption",
-    "NoSection", "ReadOption", "Section", "SectionThere", "Settings", "SettingsSection", "Unwritable",
-    "WriteOption", "apply", "dialect", "diff", "load", "merge3", "version",
+    "KINDS", "Broken", "Change", "Conflict", "Conflicting", "Document", "Error", "Lookup", "Mistyped",
+    "NoOption", "NoSection", "ReadOption", "Section", "SectionThere", "Settings", "SettingsSection",
+    "Unwritable", "WriteOption", "apply", "dialect", "diff", "load", "merge3", "version",
     "edit_add", "edit_delete", "edit_delete_section", "edit_rename_key", "edit_rename_section", "edit_set",
 ]
 TYPE_CHECKING = False

@@ -49,6 +49,8 @@ KINDS = (
     "no separator",
 )
 LONE_LINES = ("run on", "refused", "keys")
+SECTION_RULES = ("first", "joined")
+VALUE_RULES = ("first", "last")
 UNWRITABLE = {UNPLAIN_VALUE: "value", UNPLAIN_KEY: "key", NO_PLACE: "place", UNPLAIN_NAME: "name"}
 
 
@@ -147,6 +149,44 @@ class WriteOption(ctypes.Structure):
         super().__init__(policy, crlf, separator)
 
 
+class Lookup(ctypes.Structure):
+    """By which rule settings are looked up. With sections="joined" all sections of a name are one, where by
+    default the "first" alone is looked at; of a key's values the "first" counts, and with values="last" that.
+    With ignore_case the case of A to Z tells neither keys nor names apart."""
+
+    _fields_ = [
+        ("size", ctypes.c_uint8),
+        ("_sections", ctypes.c_uint8),
+        ("_values", ctypes.c_uint8),
+        ("ignore_case", ctypes.c_bool),
+    ]
+
+    def __init__(self, sections: str = "first", values: str = "first", ignore_case: bool = False) -> None:
+        super().__init__(ctypes.sizeof(Lookup), ignore_case=ignore_case)
+        self.sections = sections
+        self.values = values
+
+    @property
+    def sections(self) -> str:
+        return SECTION_RULES[self._sections]
+
+    @sections.setter
+    def sections(self, word: str) -> None:
+        if word not in SECTION_RULES:
+            raise ValueError(f'sections are looked at "first" or "joined": this is {shown(word)}')
+        self._sections = SECTION_RULES.index(word)
+
+    @property
+    def values(self) -> str:
+        return VALUE_RULES[self._values]
+
+    @values.setter
+    def values(self, word: str) -> None:
+        if word not in VALUE_RULES:
+            raise ValueError(f'of values the "first" or the "last" counts: this is {shown(word)}')
+        self._values = VALUE_RULES.index(word)
+
+
 # what calls take: a document, a text, a section's name, room to copy out, rooms for a list, options, a fault
 _handle = ctypes.POINTER(Handle)
 _text: List[Any] = [ctypes.c_char_p, ctypes.c_size_t]
@@ -155,7 +195,7 @@ _out: List[Any] = [*_text, ctypes.POINTER(ctypes.c_size_t)]
 _list: List[Any] = [*_out, ctypes.c_size_t, ctypes.POINTER(Sizes)]
 _counts: List[Any] = [ctypes.POINTER(ctypes.c_size_t), ctypes.c_size_t]
 _read, _write, _fault = ctypes.POINTER(ReadOption), ctypes.POINTER(WriteOption), ctypes.POINTER(Fault)
-_first = ctypes.POINTER(FirstFive)
+_first, _lookup = ctypes.POINTER(FirstFive), ctypes.POINTER(Lookup)
 for _call, _arguments, _result in [
     ("load_by", _text + [ctypes.c_bool, _read, _handle, _fault], ctypes.c_uint32),
     ("free", [_handle], None),
@@ -172,6 +212,7 @@ for _call, _arguments, _result in [
     ("write", [_handle, _write] + _out, ctypes.c_uint32),
     ("is_plain_by", [_handle, _write, _read], ctypes.c_bool),
     ("dialect_by", _text + [_read, _write], ctypes.c_uint32),
+    ("dialect_lookup", _text + [_lookup], ctypes.c_uint32),
     ("edit_set", _text + [_first, _write] + _name + _text + _text + _out + [_fault], ctypes.c_uint32),
     ("edit_add", _text + [_first, _write] + _name + _text + _text + _out + [_fault], ctypes.c_uint32),
     ("edit_delete", _text + [_first] + _name + _text + _out + [_fault], ctypes.c_uint32),
@@ -200,10 +241,10 @@ for _call, _arguments, _result in [
     ("text_comment", [_handle] + _name + _text + _out, ctypes.c_uint32),
     ("text_set_comment", [_handle, _write] + _name + _text + _text, ctypes.c_uint32),
     ("text_comment_out", [_handle] + _name + _text, ctypes.c_uint32),
-    ("text_diff", [_handle, _handle] + _list, ctypes.c_uint32),
-    ("text_apply", [_handle, _write] + _text + _counts + _counts[:1], ctypes.c_uint32),
-    ("text_conflicts", [_handle] * 3 + _list, ctypes.c_uint32),
-    ("text_merge3", [_handle] * 3 + [_write, ctypes.c_bool] + _counts[:1], ctypes.c_uint32),
+    ("text_diff_under", [_handle] * 2 + [_lookup] + _list, ctypes.c_uint32),
+    ("text_apply_under", [_handle, _lookup, _write] + _text + _counts + _counts[:1], ctypes.c_uint32),
+    ("text_conflicts_under", [_handle] * 3 + [_lookup] + _list, ctypes.c_uint32),
+    ("text_merge3_under", [_handle] * 3 + [_lookup, _write, ctypes.c_bool] + _counts[:1], ctypes.c_uint32),
     ("version", [], ctypes.c_uint32),
 ]:
     _function = getattr(library, "bigrosk_ini_" + _call)
@@ -295,6 +336,17 @@ def options_of(
     """The options that are given; for those that aren't, the ones of the dialect, or the default ones."""
     its = (ReadOption(), WriteOption()) if name is None else dialect(name)
     return read or its[0], write or its[1]
+
+
+def lookup_of(lookup: Optional[Lookup], name: Optional[str]) -> Lookup:
+    """The rule that is given; where none is, that of the dialect's programs, or the default one. ValueError
+    where no dialect has the name."""
+    its = Lookup()
+    if name is not None and not is_done(
+        library.bigrosk_ini_dialect_lookup(*text_words(name_of_a_dialect=name), its)
+    ):
+        raise ValueError(f"no dialect has the name {name!r}")
+    return lookup or its
 
 
 def copied_out(call: Callable[..., int], *words: Any) -> Optional[str]:

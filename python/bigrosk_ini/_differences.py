@@ -4,7 +4,8 @@ from __future__ import annotations
 import ctypes
 from collections import namedtuple
 
-from ._calls import UNNAMED, UNWRITABLE, Listing, Unwritable, is_done, library, shown, words_of
+from ._calls import UNNAMED, UNWRITABLE, Listing, Lookup, Unwritable, is_done, library, lookup_of, shown
+from ._calls import words_of
 from ._refusals import Error
 from ._settings import Settings
 
@@ -69,23 +70,35 @@ def _are_settings(*all_of: object) -> None:
             raise TypeError(f"what is compared are Settings: this is {shown(it)}")
 
 
-def diff(old: Settings, new: Settings) -> List[Change]:
+def diff(
+    old: Settings, new: Settings, lookup: Optional[Lookup] = None, dialect: Optional[str] = None
+) -> List[Change]:
     """The settings whose values differ, each once: those of `new` in their order, and then those that it
-    lacks. A setting's value is that of the first pair of its key in the first section of its name."""
+    lacks. A setting's value is that of the first pair of its key in the first section of its name; by a
+    `lookup`, or that of a `dialect` such as "git", the one that counts there, and where case is ignored names
+    and keys are in small letters."""
     _are_settings(old, new)
+    words = [old._it, new._it, lookup_of(lookup, dialect)]
     if old is new:
         return []
-    listed = _alone([old, new], lambda: Listing(library.bigrosk_ini_text_diff, old._it, new._it))
+    listed = _alone([old, new], lambda: Listing(library.bigrosk_ini_text_diff_under, *words))
     changes = []
     while not listed.is_over():
         changes.append(Change(listed.name(), listed.text(), listed.name(), listed.name()))
     return changes
 
 
-def apply(changes: Iterable[Change], settings: Settings) -> None:
+def apply(
+    changes: Iterable[Change],
+    settings: Settings,
+    lookup: Optional[Lookup] = None,
+    dialect: Optional[str] = None,
+) -> None:
     """Makes the changes, all or none, whatever values the settings have: one with .new is set, and one
-    without loses all its pairs. Unwritable tells by .index which change was refused."""
+    without loses all its pairs. By another rule than the default one the pair that counts is set, and others
+    stay. Unwritable tells by .index which change was refused."""
     _are_settings(settings)
+    rule = lookup_of(lookup, dialect)
     texts: List[Optional[bytes]] = []
     for section, key, old, new in changes:
         words = words_of(section, key=key)
@@ -94,7 +107,8 @@ def apply(changes: Iterable[Change], settings: Settings) -> None:
     given = b"".join(it + b"\0" for it in texts if it is not None)
     counts = (ctypes.c_size_t * max(len(texts), 1))(*(UNNAMED if it is None else len(it) for it in texts))
     words, refused = [given, len(given), counts, len(texts)], ctypes.c_size_t()
-    _done(settings._call(library.bigrosk_ini_text_apply, settings._write, *words, refused), refused)
+    words = [rule, settings._write, *words, refused]
+    _done(settings._call(library.bigrosk_ini_text_apply_under, *words), refused)
 
 
 def _done(status: int, refused: ctypes.c_size_t) -> None:
@@ -103,29 +117,40 @@ def _done(status: int, refused: ctypes.c_size_t) -> None:
     is_done(status)
 
 
-def merge3(base: Settings, ours: Settings, theirs: Settings, side: Optional[str] = None) -> List[Conflict]:
+def merge3(
+    base: Settings,
+    ours: Settings,
+    theirs: Settings,
+    side: Optional[str] = None,
+    lookup: Optional[Lookup] = None,
+    dialect: Optional[str] = None,
+) -> List[Conflict]:
     """Makes what `ours` changed in `base` in `theirs`, all or none, and gives the conflicts: settings that
     both changed, to different values. By `side`, "ours" or "theirs", that one's value stands there; without
     it a conflict raises Conflicting, and `theirs` stays. Unwritable tells by .index which change of those
-    that are made was refused."""
+    that are made was refused. Settings are looked up as by `diff`, and set as by `apply`."""
     _are_settings(base, ours, theirs)
     if side not in (None, "ours", "theirs"):
         raise ValueError(f'a side is "ours" or "theirs", or None: this is {shown(side)}')
+    rule = lookup_of(lookup, dialect)
     if ours is base or ours is theirs:
         return []
     if base is theirs:
         base = Settings(str(theirs), theirs._read)
-    return _alone([base, ours, theirs], lambda: _merged(base, ours, theirs, side))
+    return _alone([base, ours, theirs], lambda: _merged(base, ours, theirs, side, rule))
 
 
-def _merged(base: Settings, ours: Settings, theirs: Settings, side: Optional[str]) -> List[Conflict]:
-    three, refused = (base._it, ours._it, theirs._it), ctypes.c_size_t()
-    listed = Listing(library.bigrosk_ini_text_conflicts, *three)
+def _merged(
+    base: Settings, ours: Settings, theirs: Settings, side: Optional[str], rule: Lookup
+) -> List[Conflict]:
+    words, refused = (base._it, ours._it, theirs._it, rule), ctypes.c_size_t()
+    listed = Listing(library.bigrosk_ini_text_conflicts_under, *words)
     conflicts: List[Conflict] = []
     while not listed.is_over():
-        words: Any = (listed.name(), listed.text(), listed.name(), listed.name(), listed.name())
-        conflicts.append(Conflict(*words))
+        texts: Any = (listed.name(), listed.text(), listed.name(), listed.name(), listed.name())
+        conflicts.append(Conflict(*texts))
     if conflicts and side is None:
         raise Conflicting(conflicts)
-    _done(library.bigrosk_ini_text_merge3(*three, theirs._write, side == "ours", refused), refused)
+    merge = library.bigrosk_ini_text_merge3_under
+    _done(merge(*words, theirs._write, side == "ours", refused), refused)
     return conflicts

@@ -23,9 +23,9 @@ TOP = Path(__file__).resolve().parents[2]
 HEADER = Path(sys.argv[1])
 SOURCES = "".join(it.read_text() for it in sorted((TOP / "crates/ini_c/src").rglob("*.rt")))
 # the structs of both sides, and the fields that have two names
-STRUCTS = {"ReadChoice": "read_option", "Reading": "reading", "WriteChoice": "write_option", "Fault": "fault", "Sizes": "sizes", "Document": "document", "Text": "text", "Place": "place"}
+STRUCTS = {"ReadChoice": "read_option", "Reading": "reading", "LookupChoice": "lookup", "WriteChoice": "write_option", "Fault": "fault", "Sizes": "sizes", "Document": "document", "Text": "text", "Place": "place"}
 RENAMED = {"handle": "inner"}
-DEFAULTS = {"read_option": "BIGROSK_INI_READ_DEFAULT", "reading": "BIGROSK_INI_READING_DEFAULT", "write_option": "BIGROSK_INI_WRITE_DEFAULT"}
+DEFAULTS = {"read_option": "BIGROSK_INI_READ_DEFAULT", "reading": "BIGROSK_INI_READING_DEFAULT", "lookup": "BIGROSK_INI_LOOKUP_DEFAULT", "write_option": "BIGROSK_INI_WRITE_DEFAULT"}
 compared, different = 0, []
 
 
@@ -189,6 +189,13 @@ def compare_numbers():
     for name in ("indented_comments", "inline_comments"):
         comments = re.search(rf"uint8_t {name}; +/\* (.*?) \*/", HEADER.read_text())[1]
         same(name, re.findall(r"\d", comments), [said["true"], said["false"]])
+    for rule, words in (("section", calls_of_module.SECTION_RULES), ("value", calls_of_module.VALUE_RULES)):
+        there, said = numbers(f"{rule}_rule"), re.findall(rf"(\d+) => Some\({rule.title()}Rule::(\w+)\),", SOURCES)
+        same(f"rules of {rule}s", there, {f"{rule}s_{it}".upper(): int(n) for n, it in said})
+        same(f"rules of {rule}s of the module", list(there), [f"{rule}s_{it}".upper() for it in words])
+    said = {word: n for n, word in re.findall(r"(\d+) => Some\(CaseRule::(\w+)\),", SOURCES)}
+    ignore_case = re.search(r"uint8_t ignore_case; +/\* (.*?) \*/", HEADER.read_text())[1]
+    same("ignore_case", re.findall(r"\d", ignore_case), [said["Ignored"], said["Kept"]])
     separators = re.search(r"uint32_t separator; /\* (.*?) \*/", HEADER.read_text())[1]
     said = {text: 3 if n == "any other number" else int(n) for n, text in re.findall(r'(\d+|any other number) (".*?")', separators)}
     same("separators", said, cases(r'(\d+|_) => (".*?"),', 3))

@@ -2,8 +2,8 @@
 from pathlib import Path
 from typing import List, Optional, Tuple
 
-from bigrosk_ini import Broken, Change, Conflict, Document, ReadOption, Settings, WriteOption, apply, dialect
-from bigrosk_ini import diff, edit_set, load, merge3
+from bigrosk_ini import Broken, Change, Conflict, Document, Lookup, ReadOption, Settings, WriteOption, apply
+from bigrosk_ini import dialect, diff, edit_set, load, merge3
 
 read = ReadOption(multiline=True, lone_lines="refused", indented_comments=True, inline_comments=True)
 document = Document(Path("settings.ini"), read)
@@ -23,6 +23,7 @@ changed: List[Change] = diff(unit, Settings())
 was: Optional[str] = changed[0].old
 conflicts: List[Conflict] = merge3(unit, Settings(), Settings(), side="ours")
 apply(changed, unit)
+apply(diff(unit, Settings(), Lookup(values="last")), unit, dialect="git")
 apply([1], unit)  # type: ignore[list-item]
 try:
     document.is_plain()

@@ -48,6 +48,7 @@ SETTINGS_CALLS = {
     "text": lambda settings: str(settings),
     "diff": lambda settings: diff(Settings("k=2\n[u]\nk=1\n"), settings),
     "apply": lambda settings: apply([Change("s", "k", "2", None), Change("u", "k", None, "v")], settings),
+    "under a rule": lambda settings: apply([Change("s", "k", "2", "3")], settings, dialect="git"),
     "merge3": lambda settings: merge3(Settings("k=2\n"), Settings("k=3\nl=1\n"), settings, "ours"),
 }
 

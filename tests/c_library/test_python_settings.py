@@ -10,7 +10,7 @@ from pathlib import Path
 
 import bigrosk_ini
 from bigrosk_ini import Broken, Change, Conflict, Conflicting, Mistyped, NoOption, NoSection, SectionThere
-from bigrosk_ini import Settings, Unwritable, apply, diff, load, merge3
+from bigrosk_ini import Lookup, Settings, Unwritable, apply, diff, load, merge3
 
 TEXT = """; the fleet
 port = 8080
@@ -334,7 +334,40 @@ def merges():
     same((type(refused), refused.what, refused.index, str(bare)), (Unwritable, "value", 0, "a = 2\nb = 1\n"))
 
 
-parts = mapping, look_ups, changes, defaults, dialects, differences, merges, files
+def under_rules():
+    """By a rule, or that of a dialect: sections joined, of which the last value counts; and any case."""
+    last, any_case = Lookup(sections="joined", values="last"), Lookup(ignore_case=True)
+    same([last.sections, last.values, last.ignore_case], ["joined", "last", False])
+    same([any_case.sections, any_case.values, any_case.ignore_case], ["first", "first", True])
+    wanted = [Change("s", "k", "3", "4"), Change("t", "a", "1", "2"), Change("s", "m", "1", None)]
+    for rule in ({"lookup": last}, {"dialect": "systemd"}, {"lookup": last, "dialect": "windows"}):
+        old = Settings("[s]\nk = 1\nk = 2\n[t]\na = 1\n[s]\nk = 3\nm = 1\n")
+        new = Settings("[s]\nk = 1\n[t]\na = 2\n[s]\nk = 4\n")
+        same(diff(old, new), [Change("t", "a", "1", "2")])
+        same(diff(old, new, **rule), wanted)
+        apply(wanted, old, **rule)
+        same(str(old), "[s]\nk = 1\nk = 2\n[t]\na = 2\n[s]\nk = 4\n")
+        same(diff(old, new, **rule), [])
+    for rule in ({"lookup": any_case}, {"dialect": "windows"}):
+        old, new = Settings("Port = 1\n[Net]\nHost = a\n"), Settings("port = 2\n[net]\nHOST = a\n")
+        same(diff(old, new, **rule), [Change(None, "port", "1", "2")])
+        apply([Change(None, "port", "1", "2"), Change("net", "host", "a", None)], old, **rule)
+        same(str(old), "Port = 2\n[Net]\n")
+    base, ours = Settings("[s]\nk = 1\n[S]\nk = 2\nm = 1\n"), Settings("[s]\nk = 1\n[S]\nK = 5\nm = 1\n")
+    theirs = Settings("# theirs\n[s]\nk = 1\n[S]\nk = 2\nm = 7\n")
+    same(merge3(base, ours, theirs, dialect="git"), [])
+    same(str(theirs), "# theirs\n[s]\nk = 1\n[S]\nk = 5\nm = 7\n")
+    theirs = Settings("[s]\nk = 1\n[S]\nk = 6\nm = 1\n")
+    refused = raised(merge3, base, ours, theirs, dialect="git")
+    same((type(refused), refused.conflicts), (Conflicting, [Conflict("s", "k", "2", "5", "6")]))
+    same(merge3(base, ours, theirs, "ours", dialect="git"), refused.conflicts)
+    same(str(theirs), "[s]\nk = 1\n[S]\nk = 5\nm = 1\n")
+    for call, *words in (diff, ours, ours), (apply, [], ours), (merge3, base, base, ours):
+        same(type(raised(call, *words, dialect="gits")), ValueError)
+    same([type(raised(Lookup, **{it: "second"})) for it in ("sections", "values")], [ValueError, ValueError])
+
+
+parts = mapping, look_ups, changes, defaults, dialects, differences, merges, under_rules, files
 for part in (*parts, beside_configparser, random_runs):
     part()
 same(hasattr(bigrosk_ini, "load"), True)

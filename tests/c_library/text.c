@@ -279,6 +279,141 @@ static void merges(void)
     bigrosk_ini_text_close(&theirs);
 }
 
+/* Sections of a name as one, of which the last value counts: what only the default rule looks at differs not, pairs that don't
+ * count stay, and a setting that is taken out loses all. */
+static void joined_sections(void)
+{
+    static const char first[] = "[s]\nk = 1\nk = 2\n[t]\na = 1\n[s]\nk = 3\nm = 1\n";
+    static const char second[] = "[s]\nk = 1\n[t]\na = 2\n[s]\nk = 4\n";
+    const struct bigrosk_ini_lookup usual_rule = BIGROSK_INI_LOOKUP_DEFAULT;
+    struct bigrosk_ini_lookup rule = usual_rule;
+    text from = BIGROSK_INI_TEXT_EMPTY, to = BIGROSK_INI_TEXT_EMPTY;
+    fault f = { 0, 0, 0, "" };
+    uint8_t bytes[64] = { 'x' };
+    size_t counts[24] = { 7 }, n = BIGROSK_INI_UNNAMED, number = 5;
+    struct bigrosk_ini_sizes sizes = BIGROSK_INI_NO_SIZES;
+    rule.sections = BIGROSK_INI_SECTIONS_JOINED;
+    rule.values = BIGROSK_INI_VALUES_LAST;
+    CHECK(bigrosk_ini_text_diff_under(&from, &to, &rule, bytes, 64, counts, 24, &sizes) == BIGROSK_INI_NO_DOCUMENT);
+    CHECK(bigrosk_ini_text_apply_under(&from, &rule, &plain, bytes, 0, counts, 0, &number) == BIGROSK_INI_NO_DOCUMENT);
+    CHECK(opened(&from, first, &f) == BIGROSK_INI_OK && opened(&to, second, &f) == BIGROSK_INI_OK);
+    /* by the default rule [s] has k = 1 in both */
+    const size_t of_one[] = { 1, 1, 1, 1 };
+    CHECK(bigrosk_ini_text_diff_under(&from, &to, &usual_rule, bytes, 64, counts, 24, &sizes) == BIGROSK_INI_OK);
+    CHECK(sizes.bytes == 8 && !memcmp(bytes, "t\0" "a\0" "1\0" "2", 8));
+    CHECK(sizes.counts == 4 && !memcmp(counts, of_one, sizeof of_one));
+    CHECK(bigrosk_ini_text_diff_under(&from, &to, &rule, bytes, 21, counts, 24, &sizes) == BIGROSK_INI_NO_ROOM);
+    CHECK(sizes.bytes == 22 && sizes.counts == 12 && bytes[0] == 't' && counts[0] == 1);
+    CHECK(bigrosk_ini_text_diff_under(&from, &to, &rule, bytes, 22, counts, 12, &sizes) == BIGROSK_INI_OK);
+    const char texts[] = "s\0" "k\0" "3\0" "4\0" "t\0" "a\0" "1\0" "2\0" "s\0" "m\0" "1";
+    const size_t lengths[] = { 1, 1, 1, 1, 1, 1, 1, 1, 1, 1, 1, n };
+    CHECK(sizes.bytes == sizeof texts && !memcmp(bytes, texts, sizeof texts));
+    CHECK(sizes.counts == 12 && !memcmp(counts, lengths, sizeof lengths));
+    CHECK(bigrosk_ini_text_apply_under(&from, &rule, &plain, bytes, 22, counts, 12, &number) == BIGROSK_INI_OK);
+    CHECK(number == 5 && is_text(&from, "[s]\nk = 1\nk = 2\n[t]\na = 2\n[s]\nk = 4\n") && is_text(&to, second));
+    CHECK(bigrosk_ini_text_diff_under(&from, &to, &rule, bytes, 0, counts, 0, &sizes) == BIGROSK_INI_OK && !sizes.counts);
+    /* without k, which stands there three times */
+    const size_t without[] = { 1, 1, n, n };
+    CHECK(bigrosk_ini_text_apply_under(&from, &rule, &plain, (const uint8_t *)"s\0" "k", 4, without, 4, &number)
+        == BIGROSK_INI_OK && is_text(&from, "[s]\n[t]\na = 2\n[s]\n"));
+    /* of two changes the second one is refused */
+    const size_t two[] = { 1, 1, n, 1, n, 0, n, 1 };
+    CHECK(bigrosk_ini_text_apply_under(&to, &rule, &plain, (const uint8_t *)"s\0" "k\0" "9\0" "\0" "v", 9, two, 8, &number)
+        == BIGROSK_INI_UNPLAIN_KEY && number == 1 && is_text(&to, second));
+    CHECK(bigrosk_ini_text_apply_under(&to, &rule, &plain, bytes, 22, counts, 11, &number) == BIGROSK_INI_NOT_UTF8);
+    bigrosk_ini_text_close(&from);
+    bigrosk_ini_text_close(&to);
+}
+
+/* Keys and names of other case fit: they are told in small letters, and stay as they are spelled. */
+static void ignored_case(void)
+{
+    struct bigrosk_ini_lookup rule = BIGROSK_INI_LOOKUP_DEFAULT;
+    text from = BIGROSK_INI_TEXT_EMPTY, to = BIGROSK_INI_TEXT_EMPTY;
+    fault f = { 0, 0, 0, "" };
+    uint8_t bytes[64] = { 'x' };
+    size_t counts[24] = { 7 }, n = BIGROSK_INI_UNNAMED, number = 5;
+    struct bigrosk_ini_sizes sizes = BIGROSK_INI_NO_SIZES;
+    const size_t lengths[] = { n, 4, 1, 1 }, without[] = { 3, 4, n, n };
+    rule.ignore_case = 1;
+    CHECK(opened(&from, "Port = 1\n[Net]\nHost = a\n", &f) == BIGROSK_INI_OK);
+    CHECK(opened(&to, "port = 2\n[net]\nHOST = a\n", &f) == BIGROSK_INI_OK);
+    CHECK(bigrosk_ini_text_diff(&from, &to, bytes, 64, counts, 24, &sizes) == BIGROSK_INI_OK && sizes.counts == 16);
+    CHECK(bigrosk_ini_text_diff_under(&from, &to, &rule, bytes, 64, counts, 24, &sizes) == BIGROSK_INI_OK);
+    CHECK(sizes.bytes == 9 && !memcmp(bytes, "port\0" "1\0" "2", 9));
+    CHECK(sizes.counts == 4 && !memcmp(counts, lengths, sizeof lengths));
+    CHECK(bigrosk_ini_text_apply_under(&from, &rule, &plain, bytes, 9, counts, 4, &number) == BIGROSK_INI_OK);
+    CHECK(is_text(&from, "Port = 2\n[Net]\nHost = a\n"));
+    CHECK(bigrosk_ini_text_apply_under(&from, &rule, &plain, (const uint8_t *)"net\0" "host", 9, without, 4, &number)
+        == BIGROSK_INI_OK && is_text(&from, "Port = 2\n[Net]\n") && number == 5);
+    bigrosk_ini_text_close(&from);
+    bigrosk_ini_text_close(&to);
+}
+
+/* Merges by a rule that a dialect's name stands for; and what stands for no rule, which is refused first. */
+static void merges_under_rules(void)
+{
+    static const char one[] = "[s]\nk = 1\n[S]\nk = 2\nm = 1\n", mine[] = "[s]\nk = 1\n[S]\nK = 5\nm = 1\n";
+    struct bigrosk_ini_lookup rule = BIGROSK_INI_LOOKUP_DEFAULT, unknown = BIGROSK_INI_LOOKUP_DEFAULT;
+    text base = BIGROSK_INI_TEXT_EMPTY, ours = BIGROSK_INI_TEXT_EMPTY, theirs = BIGROSK_INI_TEXT_EMPTY;
+    fault f = { 0, 0, 0, "" };
+    uint8_t bytes[64] = { 'x' };
+    size_t counts[8] = { 7 }, number = 5;
+    struct bigrosk_ini_sizes sizes = BIGROSK_INI_NO_SIZES;
+    CHECK(bigrosk_ini_dialect_lookup_str("git", &rule) == BIGROSK_INI_OK && rule.size == sizeof rule);
+    CHECK(opened(&base, one, &f) == BIGROSK_INI_OK && opened(&ours, mine, &f) == BIGROSK_INI_OK);
+    CHECK(bigrosk_ini_text_conflicts_under(&base, &ours, &theirs, &rule, bytes, 64, counts, 8, &sizes)
+        == BIGROSK_INI_NO_DOCUMENT);
+    CHECK(bigrosk_ini_text_merge3_under(&base, &ours, &theirs, &rule, &plain, true, &number) == BIGROSK_INI_NO_DOCUMENT);
+    CHECK(opened(&theirs, "# theirs\n[s]\nk = 1\n[S]\nk = 2\nm = 7\n", &f) == BIGROSK_INI_OK);
+    CHECK(bigrosk_ini_text_conflicts_under(&base, &ours, &theirs, &rule, bytes, 0, counts, 0, &sizes) == BIGROSK_INI_OK);
+    CHECK(sizes.bytes == 0 && sizes.counts == 0);
+    CHECK(bigrosk_ini_text_merge3_under(&base, &ours, &theirs, &rule, &plain, true, &number) == BIGROSK_INI_OK);
+    CHECK(is_text(&theirs, "# theirs\n[s]\nk = 1\n[S]\nk = 5\nm = 7\n") && is_text(&ours, mine));
+    CHECK(opened(&theirs, "[s]\nk = 1\n[S]\nk = 6\nm = 1\n", &f) == BIGROSK_INI_OK);
+    CHECK(bigrosk_ini_text_conflicts_under(&base, &ours, &theirs, &rule, bytes, 9, counts, 5, &sizes)
+        == BIGROSK_INI_NO_ROOM && sizes.bytes == 10 && sizes.counts == 5);
+    CHECK(bigrosk_ini_text_conflicts_under(&base, &ours, &theirs, &rule, bytes, 10, counts, 5, &sizes) == BIGROSK_INI_OK);
+    CHECK(!memcmp(bytes, "s\0" "k\0" "2\0" "5\0" "6", 10));
+    CHECK(bigrosk_ini_text_merge3_under(&base, &ours, &theirs, &rule, &plain, false, &number) == BIGROSK_INI_OK);
+    CHECK(is_text(&theirs, "[s]\nk = 1\n[S]\nk = 6\nm = 1\n"));
+    CHECK(bigrosk_ini_text_merge3_under(&base, &ours, &theirs, &rule, &plain, true, &number) == BIGROSK_INI_OK);
+    CHECK(is_text(&theirs, "[s]\nk = 1\n[S]\nk = 5\nm = 1\n") && number == 5);
+    bigrosk_ini_text_close(&theirs);
+    for (int i = 0; i < 3; i++) {
+        unknown.sections = i == 0 ? 2 : 1;
+        unknown.values = i == 1 ? 2 : 1;
+        unknown.ignore_case = i == 2 ? 2 : 1;
+        CHECK(bigrosk_ini_text_diff_under(&base, &theirs, &unknown, bytes, 64, counts, 8, &sizes) == BIGROSK_INI_UNKNOWN_OPTION);
+        CHECK(bigrosk_ini_text_apply_under(&base, &unknown, &plain, bytes, 10, counts, 5, &number)
+            == BIGROSK_INI_UNKNOWN_OPTION);
+        CHECK(bigrosk_ini_text_conflicts_under(&base, &ours, &theirs, &unknown, bytes, 64, counts, 8, &sizes)
+            == BIGROSK_INI_UNKNOWN_OPTION);
+        CHECK(bigrosk_ini_text_merge3_under(&theirs, &ours, &base, &unknown, &plain, true, &number)
+            == BIGROSK_INI_UNKNOWN_OPTION);
+        CHECK(number == 5 && bytes[0] == 's' && is_text(&base, one));
+    }
+    bigrosk_ini_text_close(&base);
+    bigrosk_ini_text_close(&ours);
+}
+
+/* The rule of a dialect's programs, by its name; refused, the rule stays. */
+static void rules_of_dialects(void)
+{
+    static const struct { const char *name; uint8_t sections, values, ignore_case; } rows[] = {
+        { "crate", 0, 0, 0 }, { "systemd", 1, 1, 0 }, { "git", 1, 1, 1 }, { "windows", 0, 0, 1 },
+    };
+    for (size_t i = 0; i < sizeof rows / sizeof *rows; i++) {
+        struct bigrosk_ini_lookup rule = { 9, 8, 7, 6 };
+        CHECK(bigrosk_ini_dialect_lookup_str("gits", &rule) == BIGROSK_INI_ABSENT);
+        CHECK(bigrosk_ini_dialect_lookup_str("\xff", &rule) == BIGROSK_INI_NOT_UTF8);
+        CHECK(rule.size == 9 && rule.sections == 8 && rule.values == 7 && rule.ignore_case == 6);
+        CHECK(bigrosk_ini_dialect_lookup_str(rows[i].name, &rule) == BIGROSK_INI_OK && rule.size == 9);
+        CHECK(rule.sections == rows[i].sections && rule.values == rows[i].values);
+        CHECK(rule.ignore_case == rows[i].ignore_case);
+    }
+}
+
 static void typed(void)
 {
     text t = BIGROSK_INI_TEXT_EMPTY;
@@ -443,6 +578,10 @@ int main(int argc, char **argv)
     differences();
     refused_changes();
     merges();
+    joined_sections();
+    ignored_case();
+    merges_under_rules();
+    rules_of_dialects();
     typed();
     files(argc > 1 ? argv[1] : "text_client.ini");
     dialects(argc > 1 ? argv[1] : "text_client.ini");

@@ -43,8 +43,12 @@ void rattle_dealloc(void *at)
 
 static const char lines[] = "# of the text\nport = 80\n\n[s]\n# of c\nc = 3\nd = 4\nc = \"5\"\n\n# of t\n[t]\n  e = 1\n";
 static const struct bigrosk_ini_write_option option = BIGROSK_INI_WRITE_DEFAULT;
+static const struct bigrosk_ini_lookup rule = {
+    sizeof(struct bigrosk_ini_lookup), BIGROSK_INI_SECTIONS_JOINED, BIGROSK_INI_VALUES_LAST, 1
+};
 enum { open, set, set_new, set_section, add, delete, delete_all, set_nth, set_all, rename_key, rename_section, delete_section,
-    add_section, set_comment, comment_out, items, pairs, all, diff, apply, conflicts, merge3, to_buffer, calls };
+    add_section, set_comment, comment_out, items, pairs, all, diff, apply, conflicts, merge3,
+    diff_under, apply_under, conflicts_under, merge3_under, to_buffer, calls };
 
 static bool is_text(struct bigrosk_ini_text *t, const char *want);
 
@@ -90,6 +94,15 @@ static uint32_t call(int which, long n, struct bigrosk_ini_text *t)
         break;
     case conflicts: status = bigrosk_ini_text_conflicts(&b, &o, t, out, sizeof out, counts, 64, &sizes); break;
     case merge3: status = bigrosk_ini_text_merge3(&b, &o, t, &option, true, &count); break;
+    case diff_under: status = bigrosk_ini_text_diff_under(&o, t, &rule, out, sizeof out, counts, 64, &sizes); break;
+    case apply_under:
+        status = bigrosk_ini_text_apply_under(t, &rule, &option, (const uint8_t *)"port\0" "80\0" "9\0" "s\0" "d\0" "4", 16,
+                                              two, 8, &count);
+        break;
+    case conflicts_under:
+        status = bigrosk_ini_text_conflicts_under(&b, &o, t, &rule, out, sizeof out, counts, 64, &sizes);
+        break;
+    case merge3_under: status = bigrosk_ini_text_merge3_under(&b, &o, t, &rule, &option, true, &count); break;
     default: status = bigrosk_ini_text_write(t, out, sizeof out, &count); break;
     }
     left = 1000000000;

@@ -47,6 +47,12 @@ done <<'ROWS'
 --like=git|[b]\tk\t\t+2\n|[a]\nj=1\n|0|[a]\nj=1\n\n[b]\nk=2\n|
 --like=git|[b]\tk\t\t+2\n||0|[b]\nk = 2\n|
 --like=windows|[a]\tk\t-1\t+2\n|[a]\r\nk=1\r\nK=3\r\n|0|[a]\r\nk=2\r\nK=3\r\n|
+--lists|\tk\t-1\\n2\t+1\\n3\\n4\n|; c\nk = 1\nk=2\n|0|; c\nk = 1\nk=3\nk=4\n|
+--lists|\tk\t-1\\n2\t\n|k=1\nj=1\nk=2\n|0|j=1\n|
+--lists|\tk\t-1\t+a\\\\nb\n|k=1\n|0|k=a\\nb\n|
+--lists --reverse|\tk\t-1\\n2\t+1\n|k=1\n|0|k=1\nk=2\n|
+--lists --like=git|[a]\tk\t-1\\n2\t+3\n|[A]\nK=1\n[a]\nk=2\n|0|[A]\nK=3\n[a]\n|
+|\tk\t-1\t+1\\n3\n|k=1\nk=2\n|0|k=1\\n3\n|
 --reverse|\tk\t-1\t+2\n|k = 2\n|0|k = 1\n|
 --reverse|\tk\t-1\t+2\n\tk\t-2\t+3\n|k = 3\n|0|k = 1\n|
 --reverse|[a]\tk\t\t+1\n|[a]\nk=1\nj=2\n|0|[a]\nj=2\n|

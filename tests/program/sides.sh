@@ -9,16 +9,22 @@ side() {
     printf '%b' "$2" >"$1"
 }
 
-# differ: a row of its input is options, two texts with escapes, and the lines of what differs
+# differ: a row of its input is options, two texts with escapes, the lines of what differs, and the setting of which is told
+# that it has several values which differ
 differ() {
-    while IFS='|' read -r words from to want; do
+    while IFS='|' read -r words from to want several; do
         side from.ini "$from"
         side to.ini "$to"
         side lines "$want"
         if [ -n "$want" ]; then status=1; else status=0; fi
         # shellcheck disable=SC2086
-        "$room/bin/ini_file" $words diff from.ini to.ini >"$room/out" 2>"$room/err"
-        wrote "ini_file $words diff, '$from' and '$to'" $? $status lines
+        "$room/bin/ini_file" $words diff from.ini to.ini >"$room/out" 2>"$room/have"
+        ended=$?
+        [ -z "$several" ] || echo "ini_file: $several has several values, which differ: --lists compares them all" >"$room/want"
+        [ -n "$several" ] || : >"$room/want"
+        count "ini_file $words diff, '$from' and '$to': what is told of several values"
+        : >"$room/err"
+        wrote "ini_file $words diff, '$from' and '$to'" $ended $status lines
     done
 }
 
@@ -33,15 +39,32 @@ differ <<'ROWS'
 |k=1\n|k=\n|k: 1 -> \n
 |k=a\\tb\n|k=a\\\\b\n|k: a\\tb -> a\\\\b\n
 --noescape|k=a\\tb\n|k=ab\n|k: a\\\\tb -> ab\n
-|k=1\nk=2\n[a]\nj=1\n[a]\nj=2\n|k=1\nk=3\n[a]\nj=1\n|
+|k=1\nk=2\n[a]\nj=1\n[a]\nj=2\n|k=1\nk=3\n[a]\nj=1\n||k
+|k=1\nk=2\n[a]\nj=1\n|k=1\nk=2\n[a]\nj=1\n[a]\nj=3\n|
+|j=1\n[a b]\nk=1\n|j=1\n[a b]\nk=2\nk=1\nk=2\n|[a b] k: 1 -> 2\n|[a b] k
+--format=json|[a]\nk=1\nk=2\n|[a]\nk=1\n||[a] k
+--lists|k=1\nk=2\n[a]\nj=1\n|k=1\nk=3\n[a]\nj=1\nj=2\n|k: 1\\n2 -> 1\\n3\n[a] j: 1 -> 1\\n2\n
+--lists|k=1\nk=2\n[a]\nj=1\n|[a]\nj=1\nk=1\n|+ [a] k: 1\n- k: 1\\n2\n
+--lists|k=1\nj=2\nk=3\n|j=2\nk=1\n; c\nk = 3\n|
+--lists|k=1\nk=2\n|k=2\nk=1\n|k: 1\\n2 -> 2\\n1\n
+--lists --like=git|[r "o"]\nfetch=a\n[R "o"]\nFetch=b\n|[r "o"]\nfetch=a\nfetch=b\n|
+--lists --like=git|[r "o"]\nfetch=a\n[R "o"]\nFetch=b\n|[r "o"]\nfetch=a\nfetch=c\n|[r "o"] fetch: a\\nb -> a\\nc\n
+--lists --format=edits|k=1\nk=2\n|k=1\n|\tk\t-1\\n2\t+1\n
+--comments|; a\nk=1\n|\n; a\n k = 1\n; b\n|
+--comments|; a\nk=1\n|; a\n\nk=1\n|comment of k: ; a\\n -> \n
+--comments|; a\nk=1\nj=2\n|# b\n; a\nk=1\n; c\nj=3\n|j: 2 -> 3\ncomment of k: ; a\\n -> # b\\n; a\\n\ncomment of j:  -> ; c\\n\n
+--comments|[a b]\n; a\nk=1\n; c\nj=1\n|[a b]\nk=1\n; d\ni=1\n|+ [a b] i: 1\n- [a b] j: 1\ncomment of [a b] k: ; a\\n -> \n
+--comments|; a\nk=1\n; b\nk=2\n|; a\nk=1\n; c\nk=2\n|
+--comments --like=git|[a]\n; a\nk=1\n[A]\n; b\nK=1\n|[a]\n; a\nk=1\n|comment of [a] k: ; b\\n -> ; a\\n\n|[a] k
+--comments --color=always|; a\nk=1\n|k=1\n|\033[33mcomment of k: ; a\\n -> \033[m\n
 |\0357\0273\0277k=1\n|k=1\n|
 |k=\0303\0251\n|k=e\n|k: \0303\0251 -> e\n
---like=git|[a]\nk=1\n[A]\nK=2\n|[a]\nk=2\n|
+--like=git|[a]\nk=1\n[A]\nK=2\n|[a]\nk=2\n||[a] k
 --like=git|[a]\nK=1\n[a "B"]\nk=1\n|[A]\nk=2\nj=3\n[a "b"]\nk=1\n|[a] k: 1 -> 2\n+ [a] j: 3\n
---like=git|[a]\nk=1\n[b]\nj=1\n[a]\nk=2\ni=3\n|[b]\nj=1\n|- [a] k: 2\n- [a] i: 3\n
---like=windows|[A]\nKey=1\nkey=2\n[a]\nj=2\n|[a]\nKEY=1\n|
+--like=git|[a]\nk=1\n[b]\nj=1\n[a]\nk=2\ni=3\n|[b]\nj=1\n|- [a] k: 2\n- [a] i: 3\n|[a] k
+--like=windows|[A]\nKey=1\nkey=2\n[a]\nj=2\n|[a]\nKEY=1\n||[a] key
 --like=windows|[a]\n[A]\nj=2\n|[a]\nJ=2\n|+ [a] j: 2\n
---like=systemd|[Unit]\nAfter=a\nafter=c\nAfter=b\n|[Unit]\nAfter=b\nafter=d\n|[Unit] after: c -> d\n
+--like=systemd|[Unit]\nAfter=a\nafter=c\nAfter=b\n|[Unit]\nAfter=b\nafter=d\n|[Unit] after: c -> d\n|[Unit] After
 ROWS
 
 # Worked out by hand. A row is words, three texts, the status, the merged text, and what is reported.
@@ -81,6 +104,9 @@ done <<'ROWS'
 --dry-run|k=1\n|k=2\n|k=1\nj=1\n|0|--- theirs.ini\n+++ theirs.ini\n@@ -1,1 +1,1 @@\n-k=1\n+k=2\n|
 --policy=Nothing|k=1\n|k="a\\\\b"\n|k=1\n|2||ini_file: theirs.ini: k: this value can't be written so that it is read back\nnote: it has a backslash: use --policy Basics\n
 --policy=Nothing|j=1\nk=1\n|j=2\nk="a\\\\b"\n|j=1\nk=3\n|2||ini_file: theirs.ini: k: this value can't be written so that it is read back\nnote: it has a backslash: use --policy Basics\n
+--lists|k=1\nk=2\n|k=1\nk=2\nk=3\n|; c\nk=1\nk = 2\nj=1\n|0|; c\nk=1\nk = 2\nj=1\nk=3\n|
+--lists|k=1\nk=2\n|k=1\nk=3\n|k=1\nk=4\n|1|; ours: 1\\n3\n; theirs: 1\\n4\nk=1\nk=3\n|conflict: k: base = 1\\n2, ours = 1\\n3, theirs = 1\\n4\nnote: k: base.ini:1:1, ours.ini:1:1, theirs.ini:1:1\n
+--lists --like=git|[a]\nk=1\n[A]\nk=2\n|[a]\nk=1\n|[a]\nk=1\n[A]\nK=2\n|0|[a]\nk=1\n[A]\n|
 |k="1|k=2\n|k=1\n|3||base.ini:1:3: this quote isn't closed\nk="1\n  ^\nnote: the text ends at 1:5\n
 |k=1\n|[a|k=1\n|3||ours.ini:1:1: this bracket isn't closed\n[a\n^\nnote: the text ends at 1:3\n
 |k=1\n|k=1\n|k\n|3||theirs.ini:1:1: this key has no = or : after it\nk\n^\nnote: the text ends at 2:1\n

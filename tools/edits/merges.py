@@ -8,6 +8,7 @@
 `ask` writes N random triples of texts that share much, as `ini_replay merges` reads them; `judge` compares what the program
 answered with the model; `random` does both, where PROGRAM is the command `ini_replay merges`. The status is 1 where there is
 a difference. The model knows what each look-up is to answer, and makes the edits of pieces_model.py, each on the whole text.
+In half of them a setting's value is the list of all values of its key, one a line, and is set value by value.
 """
 import collections
 
@@ -20,15 +21,41 @@ from pieces_model import Edit, Page, edited
 MORE = ["k = v\n", "k=2\n", "j=1\n", "j = x\n", "[a]\n", "[b]\n", "[a]\nk=1\nj=2\n", "[b]\nk=v\n", "k=\n", "i=0\n", "; c\n", "\n"]
 
 
-def settings(text, option):
-    """What look-ups answer: of each section and key the first value in the first section, in order."""
+def values_of(text, option):
+    """Of each section and key the values in the first section of the name, in order."""
     found, seen = {}, set()
     for name, pairs in Page(text, option).document():
         if name not in seen:
             seen.add(name)
             for key, value in pairs:
-                found.setdefault((name, key), value)
+                found.setdefault((name, key), []).append(value)
     return found
+
+
+def settings(text, option, lists=False):
+    """What a setting's value is: the first one, or all of them, one a line."""
+    def shown(values):
+        return "\n".join(value.replace("\\", "\\\\").replace("\n", "\\n") for value in values) if lists else values[0]
+    return {place: shown(values) for place, values in values_of(text, option).items()}
+
+
+def put(text, option, writing, calls):
+    """The text after calls of a key, one after another."""
+    for call, (name, key), value, number in calls:
+        new = edited(Page(text, option), writing, Edit(call, name, key, "", value, number))
+        text = text if new is None else new
+    return text
+
+
+def calls_of(place, value, values, there):
+    """What gives the key of a setting its new value, where so many pairs of it are there."""
+    if value is None:
+        return [("delete_all", place, "", 0)]
+    if values is None:
+        return [("set", place, value, 0)]
+    sets = [("set_nth", place, one, number) for number, one in enumerate(values[:there])]
+    outs = [("delete_nth", place, "", number) for number in reversed(range(len(values), there))]
+    return sets + outs + [("add", place, one, 0) for one in values[there:]]
 
 
 def changes(base, ours):
@@ -43,7 +70,9 @@ def value_word(value):
 
 def answer(option, writing, side, texts):
     """The line that answers a triple."""
-    base, ours, theirs = (settings(text, option) for text in texts)
+    lists = side.endswith("-lists")
+    base, ours, theirs = (settings(text, option, lists) for text in texts)
+    wanted, there = values_of(texts[1], option), values_of(texts[2], option)
     text, words = texts[2], []
     refusal = None
     for place in changes(base, ours):
@@ -51,13 +80,11 @@ def answer(option, writing, side, texts):
         in_conflict = values[0] != values[2] and values[1] != values[2]
         if in_conflict:
             words.append(",".join([name_word(place[0]), digits(place[1])] + [value_word(value) for value in values]))
-        if refusal or values[1] == values[2] or (in_conflict and side == "theirs"):
+        if refusal or values[1] == values[2] or (in_conflict and side.startswith("theirs")):
             continue
-        call = "delete_all" if values[1] is None else "set"
-        edit = Edit(call, place[0], place[1], "", values[1] or "", 0)
         try:
-            new = edited(Page(text, option), writing, edit)
-            text = text if new is None else new
+            calls = calls_of(place, values[1], wanted.get(place) if lists else None, len(there.get(place, [])))
+            text = put(text, option, writing, calls)
         except Refused as refused:
             refusal = str(refused)
     first = f"refused:{refusal}" if refusal else f"new:{digits(text)}"
@@ -109,7 +136,10 @@ def random_question(chance):
         texts = ["".join(base), "".join(changed(chance, base, more)), "".join(changed(chance, base, more))]
         if not all(is_read(text, option) for text in texts) or empties_early(texts, option):
             continue
-        return option, random_writing(chance), chance.choice(["ours", "theirs"]), texts
+        side = chance.choice(["ours", "theirs", "ours-lists", "theirs-lists"])
+        if side.endswith("-lists") and any("" in values for values in values_of(texts[1], option).values()):
+            continue
+        return option, random_writing(chance), side, texts
 
 
 def parsed(line):

@@ -61,8 +61,9 @@ TABLES = {
         "ini_dialect RuledTexts": "IsSetTextUnder IsDeletedTextUnder",
         "ini_dialect Encodings": "encoded IsDecoded IsMalformedAt IsUnencodableAt",
         "ini_layers Differences": "difference",
-        "ini_layers Applying": "HasChanged LeadsTo",
-        "ini_layers Merging": "IsMerged conflicts_of",
+        "ini_layers Comments": "commented",
+        "ini_layers Applying": "HasChangedBy LeadsToBy",
+        "ini_layers Merging": "IsMergedBy conflicts_of",
     },
     "setters": {
         "ini Entries": "entry_now occupied vacant InSameDocument",

@@ -5,19 +5,19 @@ use Rattle.ini.specs.Texts.{Text, is_text}
 use Rattle.ini.specs.Properties.{Pairs, inserted, removed}
 use Rattle.ini.specs.Documents.{Document, first_section}
 use Rattle.ini.specs.Edits.{add_in, delete_in, delete_in_all, replace_in, section_put, set_in}
-use Rattle.ini.specs.EditLaws.{KeepsLaterSections, KeepsNames, KeepsOtherKeysIn, KeepsOtherNames, KeepsOtherSections, KeepsRest}
+use Rattle.ini.specs.EditLaws.{KeepsLaterSections, KeepsNames, KeepsOtherKeysIn, KeepsOtherNames}
+use Rattle.ini.specs.EditLaws.{KeepsOtherSections, KeepsRest}
 use Rattle.ini.proofs.EditLemmas.{edit_section-last}
 use Rattle.ini.proofs.KeepingLemmas.{deleted-last, deleted_from-last, entry-there, first-all_removed}
-use Rattle.ini.proofs.KeepingLemmas.{first-all_sections_removed, first-appended, first-deleted}
-use Rattle.ini.proofs.KeepingLemmas.{first-edited, first-inserted, first-removed, first-replaced}
-use Rattle.ini.proofs.KeepingLemmas.{first-section_removed, first-section_set, inserted-there}
-use Rattle.ini.proofs.KeepingLemmas.{later-edited, lent-there, name_refl, named-all_sections_removed}
-use Rattle.ini.proofs.KeepingLemmas.{named-deleted, named-edited, named-section_removed}
-use Rattle.ini.proofs.KeepingLemmas.{named-section_set, others-appended, others-inserted, others-removed}
-use Rattle.ini.proofs.KeepingLemmas.{others-replaced, replace-there, rest-deleted, rest-edited}
-use Rattle.ini.proofs.KeepingLemmas.{set-there, there-deleted, there-edited, there-section_set}
-use Rattle.ini.proofs.KeepingLemmas.{value-deleted, value-edited, values-all_removed, values-appended}
-use Rattle.ini.proofs.KeepingLemmas.{values-inserted, values-removed}
+use Rattle.ini.proofs.KeepingLemmas.{first-all_sections_removed, first-appended, first-deleted, first-edited}
+use Rattle.ini.proofs.KeepingLemmas.{first-inserted, first-removed, first-replaced, first-section_removed}
+use Rattle.ini.proofs.KeepingLemmas.{first-section_set, inserted-there, later-edited, lent-there, name_refl}
+use Rattle.ini.proofs.KeepingLemmas.{named-all_sections_removed, named-deleted, named-edited}
+use Rattle.ini.proofs.KeepingLemmas.{named-section_removed, named-section_set, others-appended}
+use Rattle.ini.proofs.KeepingLemmas.{others-inserted, others-removed, others-replaced, replace-there}
+use Rattle.ini.proofs.KeepingLemmas.{rest-deleted, rest-edited, set-there, there-deleted, there-edited}
+use Rattle.ini.proofs.KeepingLemmas.{there-section_set, value-deleted, value-edited, values-all_removed}
+use Rattle.ini.proofs.KeepingLemmas.{values-appended, values-inserted, values-removed}
 
 -- the first value of the key is another one
 abbrev pub replaced : Text → Text → Pairs → Pairs

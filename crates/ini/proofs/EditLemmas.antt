@@ -1,5 +1,6 @@
 -- An edit of the first section of a name, by what stands there.
-use Rattle.std.proofs.Common.{◌≡◌, true, false, [], ◌∷◌, ◌++◌, Option, None, Some, IsSome, IfNone, Result, Ok, Err, OnOk, OnErr, subst, refl, sym, arith, append-nil}
+use Rattle.std.proofs.Common.{◌≡◌, true, false, [], ◌∷◌, ◌++◌, Option, None, Some, IsSome, IfNone, Result, Ok}
+use Rattle.std.proofs.Common.{Err, OnOk, OnErr, subst, refl, sym, arith, append-nil}
 use Rattle.std.proofs.lemmas.Bool.{false≢true}
 use Rattle.std.specs.Map.{set_value}
 use Rattle.ini.specs.Texts.{Text, is_name, is_text}

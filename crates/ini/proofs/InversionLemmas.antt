@@ -1,6 +1,7 @@
 -- The laws of documents: what is written for a plain one, with a text after it, and one text for two plain
 -- ones.
-use Rattle.std.proofs.Common.{◌≡◌, ◌∙◌, zero, suc, ◌+◌, true, [], ◌∷◌, ◌++◌, drop, All, ap, sym, subst, refl, Option, None, Some, append-nil, count_by, inl, inr, arith}
+use Rattle.std.proofs.Common.{◌≡◌, ◌∙◌, zero, suc, ◌+◌, true, [], ◌∷◌, ◌++◌, drop, All, ap, sym, subst, refl}
+use Rattle.std.proofs.Common.{Option, None, Some, append-nil, count_by, inl, inr, arith}
 use Rattle.std.specs.Str.{all_scalars}
 use Rattle.ini_text.specs.Grammar.CharacterKinds.{is_line_feed}
 use Rattle.ini_text.specs.Laws.Readings as text_outcome
@@ -21,7 +22,8 @@ use Rattle.ini.specs.Plain.{IsPlain}
 use Rattle.ini.specs.SectionItems.{items_of, pair_items}
 use Rattle.ini.specs.Written.{has_pairs, written, written_pairs, written_sections}
 use Rattle.ini.proofs.EachLemmas.{Each, each_of}
-use Rattle.ini.proofs.PlainTextLemmas.{GivesBefore, HasNames, IsGood, general_gives, items_make, more_make, pairs-scalars, sections-scalars, sections_give}
+use Rattle.ini.proofs.PlainTextLemmas.{GivesBefore, HasNames, IsGood, general_gives, items_make, more_make}
+use Rattle.ini.proofs.PlainTextLemmas.{pairs-scalars, sections-scalars, sections_give}
 
 module _ (o : ParseOption) (w : WriteOption) {d : Document} (plain : IsPlain d w o) where
   abbrev whole : Document

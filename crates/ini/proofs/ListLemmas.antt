@@ -1,5 +1,6 @@
 -- The calls of a list of pairs commute with reading its keys and values.
-use Rattle.std.proofs.Common.{◌≡◌, Bool, cond, true, false, List, [], ◌∷◌, ◌++◌, map, refl, arith, Option, Some, IsSome}
+use Rattle.std.proofs.Common.{◌≡◌, Bool, cond, true, false, List, [], ◌∷◌, ◌++◌, map, refl, arith, Option}
+use Rattle.std.proofs.Common.{Some, IsSome}
 use Rattle.std.specs.List.{list_any}
 use Rattle.std.specs.Option.{option_map}
 use Rattle.std.specs.Map.{lookup, remove_entry, set_value}

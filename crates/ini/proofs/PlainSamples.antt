@@ -1,10 +1,12 @@
 -- A document that is plain, and documents that aren't.
-use Rattle.std.proofs.Common.{◌≡◌, true, not, ◌&&◌, [], ◌∷◌, refl, sym, subst, zero, suc, inl, None, Some, IsSomeAnd, arith, All}
+use Rattle.std.proofs.Common.{◌≡◌, true, not, ◌&&◌, [], ◌∷◌, refl, sym, subst, zero, suc, inl, None, Some}
+use Rattle.std.proofs.Common.{IsSomeAnd, arith, All}
 use Rattle.std.specs.Prelude.{codes}
 use Rattle.std.specs.List.{list_all}
 use Rattle.std.specs.Str.{all_scalars, chars}
 use Rattle.ini_text.specs.Options.ReadOptions.{default_parse_option}
-use Rattle.ini_text.specs.Laws.Plain.{IsBareKey, IsPlainKey, IsPlainName, IsPlainPair, IsPlainSeparator, IsReadBack, has_unread_letter}
+use Rattle.ini_text.specs.Laws.Plain.{IsBareKey, IsPlainKey, IsPlainName, IsPlainPair, IsPlainSeparator}
+use Rattle.ini_text.specs.Laws.Plain.{IsReadBack, has_unread_letter}
 use Rattle.ini_text.specs.Escaping.Policies.{is_escaped, is_extended}
 use Rattle.ini_text.specs.Options.WriteOptions.{IsDefaultWriteOption}
 use Rattle.ini_text.specs.declared.option.ParseOption.{ParseOption}

@@ -1,5 +1,7 @@
 -- The text of a plain document gives its items, and they make the document.
-use Rattle.std.proofs.Common.{◌≡◌, ◌∙◌, ◌<◌, Bool, true, false, ◌&&◌, ◌||◌, cond, eqb, List, [], ◌∷◌, ◌++◌, length, drop, fold, ap, sym, subst, refl, Option, None, Some, IsSomeAnd, arith, append_assoc, append-nil, chars, eqb-true}
+use Rattle.std.proofs.Common.{◌≡◌, ◌∙◌, ◌<◌, Bool, true, false, ◌&&◌, ◌||◌, cond, eqb, List, [], ◌∷◌, ◌++◌}
+use Rattle.std.proofs.Common.{length, drop, fold, ap, sym, subst, refl, Option, None, Some, IsSomeAnd, arith}
+use Rattle.std.proofs.Common.{append_assoc, append-nil, chars, eqb-true}
 use Rattle.std.proofs.lemmas.Bool.{not-false, and_parts, false≢true}
 use Rattle.std.proofs.lemmas.Grind.{fold-append}
 use Rattle.std.specs.Prelude.{⊤}
@@ -8,7 +10,8 @@ use Rattle.ini_text.specs.Grammar.CharacterKinds.{close_bracket, open_bracket}
 use Rattle.ini_text.specs.Grammar.Elements.{Given, Header, Pair}
 use Rattle.ini_text.specs.Escaping.EscapedTexts.{escaped}
 use Rattle.ini_text.specs.Laws.Plain.{IsPlainKey, IsPlainName, IsPlainPair, IsPlainSeparator}
-use Rattle.ini_text.specs.Laws.PlainLaws.{BeginsWithHeader, FollowsPair, GivesLine, IsEmptyOrHeader, header_source, line_ends, pair_source}
+use Rattle.ini_text.specs.Laws.PlainLaws.{BeginsWithHeader, FollowsPair, GivesLine, IsEmptyOrHeader}
+use Rattle.ini_text.specs.Laws.PlainLaws.{header_source, line_ends, pair_source}
 use Rattle.ini_text.specs.Grammar.Positions.{is_column_one}
 use Rattle.ini_text.specs.Grammar.Texts.{Reads}
 use Rattle.ini_text.specs.Options.WriteOptions.{line_end}

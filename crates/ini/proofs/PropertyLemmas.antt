@@ -9,7 +9,8 @@ use Rattle.std.specs.String.{string_bytes, string_eq}
 use Rattle.ini_multimap.specs.Pairs.{distinct_keys, insert_pair, values_at, without}
 use Rattle.ini.specs.Texts.{is_text, text_of}
 use Rattle.ini.specs.Properties.{all_removed, distinct, first_value, inserted, pairs_of, removed, values}
-use Rattle.ini.proofs.ListLemmas.{lookup-both, remove_entry-both, set_value-both, without-both, values_at-both, insert_pair-both, distinct_keys-both, found}
+use Rattle.ini.proofs.ListLemmas.{lookup-both, remove_entry-both, set_value-both, without-both}
+use Rattle.ini.proofs.ListLemmas.{values_at-both, insert_pair-both, distinct_keys-both, found}
 use Rattle.ini.proofs.TextLemmas.{fitting_key, same_key, same_keys}
 
 module _ {Z : Type 0} (ps : List (String Z × String Z)) where

@@ -1,5 +1,7 @@
 -- Items that are read one after another, and the document that they make.
-use Rattle.std.proofs.Common.{◌≡◌, ◌∙◌, ◌<◌, ◌≤◌, ◌-◌, List, [], ◌∷◌, ◌++◌, length, ap, sym, subst, refl, Option, None, Some, Result, Ok, Err, arith, add-zero, append_assoc, append-nil, length-append, ℕ, IsUtf8, chars}
+use Rattle.std.proofs.Common.{◌≡◌, ◌∙◌, ◌<◌, ◌≤◌, ◌-◌, List, [], ◌∷◌, ◌++◌, length, ap, sym, subst, refl}
+use Rattle.std.proofs.Common.{Option, None, Some, Result, Ok, Err, arith, add-zero, append_assoc, append-nil}
+use Rattle.std.proofs.Common.{length-append, ℕ, IsUtf8, chars}
 use Rattle.std.proofs.lemmas.Str.{encodes-chars}
 use lib.Utf8.{encodes}
 use Rattle.std.proofs.lemmas.Grind.{fold-append}

@@ -1,5 +1,6 @@
 -- What the calls of a list of sections named by strings do to the document that it shows.
-use Rattle.std.proofs.Common.{◌≡◌, ◌∙◌, ap, refl, ℕ, List, [], ◌∷◌, length, Option, None, Some, IfSome, IsSome, String}
+use Rattle.std.proofs.Common.{◌≡◌, ◌∙◌, ap, refl, ℕ, List, [], ◌∷◌, length, Option, None, Some, IfSome}
+use Rattle.std.proofs.Common.{IsSome, String}
 use Rattle.std.proofs.lemmas.Iterator.Adapters.{option_map_id}
 use Rattle.std.proofs.lemmas.List.{length-map, map-id}
 use Rattle.std.specs.Borrow.{Bor}
@@ -14,7 +15,8 @@ use Rattle.ini.specs.Texts.{is_name, name_of, str_name}
 use Rattle.ini.specs.Inside.LentNames.{IsTextName}
 use Rattle.ini.specs.Properties.{Pairs}
 use Rattle.ini.specs.Documents.{first_section, names, names_of, section_removed, sections_named, sections_of}
-use Rattle.ini.proofs.ListLemmas.{lookup-both, remove_entry-both, set_value-both, distinct_keys-both, values_at-both, found}
+use Rattle.ini.proofs.ListLemmas.{lookup-both, remove_entry-both, set_value-both, distinct_keys-both}
+use Rattle.ini.proofs.ListLemmas.{values_at-both, found}
 use Rattle.ini.proofs.TextLemmas.{fitting_name, same_name, same_names}
 
 module _ {Z : Type 0} (ss : List (Option (String Z) × Pairs)) where

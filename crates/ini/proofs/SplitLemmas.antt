@@ -1,5 +1,6 @@
 -- A list parted at one of its items.
-use Rattle.std.proofs.Common.{◌≡◌, ◌<◌, ◌∙◌, ℕ, suc, List, ◌∷◌, ◌++◌, ap, sym, get_or, length, take, drop, drop-cons}
+use Rattle.std.proofs.Common.{◌≡◌, ◌<◌, ◌∙◌, ℕ, suc, List, ◌∷◌, ◌++◌, ap, sym, get_or, length, take, drop}
+use Rattle.std.proofs.Common.{drop-cons}
 use Rattle.std.proofs.lemmas.List.{take-append-drop}
 
 pub split_at : {X : Type 0} (xs : List X) (i : ℕ) (x : X) → i < length xs → x ≡ get_or xs i x

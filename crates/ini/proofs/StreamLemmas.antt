@@ -1,5 +1,7 @@
 -- A reader's bytes on their way into a document: a mark at their front, what is read of them, and their end.
-use Rattle.std.proofs.Common.{◌≡◌, ◌∙◌, ◌≤◌, ◌<◌, ◌+◌, ℕ, Bool, true, false, cond, List, [], ◌∷◌, ◌++◌, length, Option, None, Some, Result, Ok, Err, IfErr, IfSome, IsUtf8, nat_eq, ap, sym, subst, refl, arith, append_assoc, append-nil, length-append, ◌-◌}
+use Rattle.std.proofs.Common.{◌≡◌, ◌∙◌, ◌≤◌, ◌<◌, ◌+◌, ℕ, Bool, true, false, cond, List, [], ◌∷◌, ◌++◌}
+use Rattle.std.proofs.Common.{length, Option, None, Some, Result, Ok, Err, IfErr, IfSome, IsUtf8, nat_eq, ap}
+use Rattle.std.proofs.Common.{sym, subst, refl, arith, append_assoc, append-nil, length-append, ◌-◌}
 use Rattle.std.proofs.lemmas.Bool.{false≢true}
 use Rattle.std.specs.List.{starts_with}
 use Rattle.std.specs.Io.KnownBytes.{Consumes, IsAtEnd}
@@ -13,7 +15,9 @@ use Rattle.ini.specs.Inside.StreamLoader.{Ends, GoesBy, IsStreaming}
 use Rattle.ini.specs.Inside.ReadBytes.{HasRead, IsFilled, IsTextRefusal}
 use Rattle.ini.specs.declared.streaming.StreamLoader.{StreamLoader}
 use Rattle.ini.proofs.GeneralLemmas.{has_general}
-use Rattle.ini.proofs.StreamLoaderLemmas.{IsDocumentOf-all, IsStreaming-goes_by, IsStreaming-reads, IsStreaming-starts, IsStopOf-all, IsUtf8-all, IsUtf8-kept, feeds_fit}
+use Rattle.ini.proofs.StreamLoaderLemmas.{IsDocumentOf-all, IsStreaming-goes_by, IsStreaming-reads}
+use Rattle.ini.proofs.StreamLoaderLemmas.{IsStreaming-starts, IsStopOf-all, IsUtf8-all, IsUtf8-kept}
+use Rattle.ini.proofs.StreamLoaderLemmas.{feeds_fit}
 use Rattle.ini.proofs.ReadingLemmas.{with_items-some}
 
 -- after three bytes no mark is sought

@@ -1,8 +1,11 @@
 -- Bytes of which whole lines were dropped, and what reading the others makes of the document.
-use Rattle.std.proofs.Common.{◌≡◌, ◌∙◌, ◌≤◌, ◌+◌, ◌-◌, ℕ, true, cond, List, [], ◌∷◌, ◌++◌, length, take, drop, chars, count_by, IsUtf8, ap, sym, subst, refl, None, arith, append_assoc, append-nil, length-append}
+use Rattle.std.proofs.Common.{◌≡◌, ◌∙◌, ◌≤◌, ◌+◌, ◌-◌, ℕ, true, cond, List, [], ◌∷◌, ◌++◌, length, take, drop}
+use Rattle.std.proofs.Common.{chars, count_by, IsUtf8, ap, sym, subst, refl, None, arith, append_assoc}
+use Rattle.std.proofs.Common.{append-nil, length-append}
 use Rattle.std.proofs.lemmas.List.{take-append-drop, take-append-le}
 use Rattle.std.proofs.lemmas.List.Sums.{count_by-le-length, sum_by-append}
-use Rattle.std.proofs.lemmas.Str.{IsCharBoundary-from_take, IsUtf8-append, IsUtf8-drop, IsUtf8-nil, chars-append, chars-nil, encodes-append, encodes-chars, length-le-encodes}
+use Rattle.std.proofs.lemmas.Str.{IsCharBoundary-from_take, IsUtf8-append, IsUtf8-drop, IsUtf8-nil}
+use Rattle.std.proofs.lemmas.Str.{chars-append, chars-nil, encodes-append, encodes-chars, length-le-encodes}
 use Rattle.std.proofs.Math.Seq.{drop-append_seam, take-append_seam}
 use Rattle.ini_text.specs.Grammar.CharacterKinds.{is_line_feed}
 use Rattle.ini_text.specs.Grammar.Positions.{is_column_one}
@@ -11,11 +14,13 @@ use Rattle.ini_text.specs.Parsing.Fronts.{front_of, IsRest}
 use Rattle.ini_text.specs.Parsing.Parser.{StopsPast}
 use Rattle.ini_text.specs.declared.error.ParseError.{ParseError}
 use Rattle.ini_text.specs.declared.option.ParseOption.{ParseOption}
-use Rattle.ini_text.proofs.LawLemmas.ExportedLemmas.{Reads-after, StopsAfter-after, front_is, is_column_one-after}
+use Rattle.ini_text.proofs.LawLemmas.ExportedLemmas.{Reads-after, StopsAfter-after, front_is}
+use Rattle.ini_text.proofs.LawLemmas.ExportedLemmas.{is_column_one-after}
 use Rattle.ini.specs.Texts.{Text}
 use Rattle.ini.specs.Documents.{Document}
 use Rattle.ini.specs.Loading.{IsDocumentOf, IsStopOf}
-use Rattle.ini.specs.Inside.StreamLoader.{GoesBy, HasFront, IsStreaming, Makes, Settles, StopsLater, with_items}
+use Rattle.ini.specs.Inside.StreamLoader.{GoesBy, HasFront, IsStreaming, Makes, Settles, StopsLater}
+use Rattle.ini.specs.Inside.StreamLoader.{with_items}
 use Rattle.ini.specs.declared.streaming.StreamLoader.{StreamLoader}
 use Rattle.ini.proofs.ReadingLemmas.{IsStopOf-after, Reads-append, with_items-append}
 use lib.Utf8.{encodes}

@@ -1,5 +1,6 @@
 -- Texts are equal exactly where their bytes are.
-use Rattle.std.proofs.Common.{◌≡◌, ◌∙◌, ◌↔◌, ℕ, List, Option, None, Some, IfSome, true, String, ap, refl, subst, sym}
+use Rattle.std.proofs.Common.{◌≡◌, ◌∙◌, ◌↔◌, ℕ, List, Option, None, Some, IfSome, true, String, ap, refl}
+use Rattle.std.proofs.Common.{subst, sym}
 use lib.Utf8.{encodes}
 use Rattle.std.proofs.lemmas.Str.{IsUtf8-string_bytes, encodes-chars}
 use Rattle.std.specs.Borrow.{Bor}

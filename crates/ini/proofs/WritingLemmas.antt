@@ -1,7 +1,6 @@
 -- Texts that are written one after another.
-use Rattle.std.proofs.Common.{◌≡◌, ◌∙◌, sym, ap, refl, ℕ, ◌+◌, ◌<◌, List, [], ◌∷◌}
-use Rattle.std.proofs.Common.{◌++◌, flat_map, get_or, drop, drop-cons, add-one, length, Some}
-use Rattle.std.proofs.Common.{append_assoc}
+use Rattle.std.proofs.Common.{◌≡◌, ◌∙◌, sym, ap, refl, ℕ, ◌+◌, ◌<◌, List, [], ◌∷◌, ◌++◌, flat_map, get_or}
+use Rattle.std.proofs.Common.{drop, drop-cons, add-one, length, Some, append_assoc}
 use Rattle.std.specs.Str.{chars}
 use Rattle.ini_text.specs.Grammar.CharacterKinds.{close_bracket, open_bracket}
 use Rattle.ini_text.specs.Escaping.EscapedTexts.{escaped}

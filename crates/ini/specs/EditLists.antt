@@ -10,8 +10,7 @@ use Rattle.ini.specs.Edits.{add_in, delete_in, delete_in_all, set_in}
 use Rattle.ini.specs.Loading.{IsDocumentOf}
 use Rattle.ini.specs.Written.{written}
 use Rattle.ini.specs.declared.edits.Edit.{Edit}
-use Rattle.ini.specs.declared.edits.Edit.TheVariants.{Set, Add, Delete, DeleteFrom, DeleteSection}
-use Rattle.ini.specs.declared.edits.Edit.TheVariants.{Clear}
+use Rattle.ini.specs.declared.edits.Edit.TheVariants.{Set, Add, Delete, DeleteFrom, DeleteSection, Clear}
 
 -- the document after one edit
 abbrev pub edited_once : Document → Edit → Document

@@ -3,11 +3,12 @@ use Rattle.std.specs.Prelude.{ℕ, Bool, true, false, List, [], ◌∷◌, fold,
 use Rattle.ini.specs.Documents.{Document}
 use Rattle.ini.specs.Texts.{Text}
 use Rattle.ini_dialect.specs.Flattened.{flattened}
-use Rattle.ini_dialect.specs.Rules.{default_lookup}
+use Rattle.ini_dialect.specs.Rules.{default_lookup, is_own}
+use Rattle.ini_dialect.specs.declared.rule.Lookup.{Lookup}
 use Rattle.ini_edit.specs.Sources.{Pieces, document_in}
 use Rattle.ini_edit.specs.declared.error.EditError.{EditError}
 use Rattle.ini_layers.specs.Differences.{SettingChange, difference}
-use Rattle.ini_layers.specs.Merging.{SettingConflict, conflicts_of, taken_under}
+use Rattle.ini_layers.specs.Merging.{SettingConflict, conflicts_under, taken_under}
 use Rattle.ini_layers.specs.SourceChanges.{RefusesOne}
 use Rattle.ini_layers.specs.declared.merging.Side.{Side}
 use Rattle.ini_layers.specs.declared.merging.Side.TheVariants.{Ours, Theirs}
@@ -48,19 +49,31 @@ AreChangesGiven bytes counts = AreTextsGiven bytes counts × AreChanges (texts_g
 abbrev pub changes_given : List ℕ → List ℕ → List SettingChange
 changes_given bytes counts = changes_of (texts_given bytes counts)
 
--- the conflicts of two documents with their base, where a setting has its first value in the first section
-abbrev pub conflicts_between : (base ours theirs : Document) → List SettingConflict
-conflicts_between base ours theirs = conflicts_of (flattened default_lookup base)
-    (flattened default_lookup ours) (flattened default_lookup theirs)
+-- what a document answers under a rule: by the default one that is what it answers itself
+abbrev pub answers_by : Bool → Lookup → Document → Document
+answers_by true rule d = d
+answers_by false rule d = flattened rule d
 
--- the difference of two documents, and the conflicts of two with their base, where all are there
+abbrev pub answers_under : Lookup → Document → Document
+answers_under rule d = answers_by (is_own rule) rule d
+
+-- the difference of two documents under a rule, and the conflicts of two with their base, where all are there
+module _ (rule : Lookup) where
+  abbrev pub difference_in_under : Option Document → Option Document → Option (List SettingChange)
+  difference_in_under (Some from) (Some to) =
+      Some (difference (answers_under rule from) (answers_under rule to))
+  difference_in_under _ _ = None
+
+  abbrev pub conflicts_in_under : (base ours theirs : Option Document) → Option (List SettingConflict)
+  conflicts_in_under (Some base) (Some ours) (Some theirs) = Some (conflicts_under rule base ours theirs)
+  conflicts_in_under _ _ _ = None
+
+-- the same where a setting has its first value in the first section
 abbrev pub difference_in : Option Document → Option Document → Option (List SettingChange)
-difference_in (Some from) (Some to) = Some (difference from to)
-difference_in _ _ = None
+difference_in from to = difference_in_under default_lookup from to
 
 abbrev pub conflicts_in : (base ours theirs : Option Document) → Option (List SettingConflict)
-conflicts_in (Some base) (Some ours) (Some theirs) = Some (conflicts_between base ours theirs)
-conflicts_in _ _ _ = None
+conflicts_in base ours theirs = conflicts_in_under default_lookup base ours theirs
 
 abbrev pub side_if : Bool → Side
 side_if true = Ours
@@ -72,14 +85,24 @@ abbrev pub Merges : (Document → Document → Pieces → Pieces → Type 0)
 Merges P (Some base) (Some ours) (Some old) (Some new) = P base ours old new
 Merges P _ _ _ _ = ⊥
 
--- making the changes in the pieces, by an option that the choice asks for, is refused at this index so
-abbrev pub RefusesAt : WriteChoice → Pieces → List SettingChange → ℕ → EditError → Type 0
-RefusesAt choice p changes index e =
-    Asks choice (λ w. RefusesOne default_lookup w p changes (record { index = index; refusal = e }))
+module _ (rule : Lookup) where
+  -- making the changes in the pieces, by an option that the choice asks for, is refused at this index so
+  abbrev pub RefusesUnder : WriteChoice → Pieces → List SettingChange → ℕ → EditError → Type 0
+  RefusesUnder choice p changes index e =
+      Asks choice (λ w. RefusesOne rule w p changes (record { index = index; refusal = e }))
 
--- so it is of the changes that a merge makes, where all are there
+  -- so it is of the changes that a merge makes, where all are there
+  abbrev pub RefusesToMergeUnder : WriteChoice → Side → (base ours : Option Document) → Option Pieces → ℕ
+      → EditError → Type 0
+  RefusesToMergeUnder choice side (Some base) (Some ours) (Some theirs) index e =
+      RefusesUnder choice theirs (taken_under rule side base ours (document_in theirs)) index e
+  RefusesToMergeUnder choice side _ _ _ index e = ⊥
+
+-- the same by the default rule
+abbrev pub RefusesAt : WriteChoice → Pieces → List SettingChange → ℕ → EditError → Type 0
+RefusesAt choice p changes index e = RefusesUnder default_lookup choice p changes index e
+
 abbrev pub RefusesToMerge : WriteChoice → Side → (base ours : Option Document) → Option Pieces → ℕ → EditError
     → Type 0
-RefusesToMerge choice side (Some base) (Some ours) (Some theirs) index e =
-    RefusesAt choice theirs (taken_under default_lookup side base ours (document_in theirs)) index e
-RefusesToMerge choice side _ _ _ index e = ⊥
+RefusesToMerge choice side base ours theirs index e =
+    RefusesToMergeUnder default_lookup choice side base ours theirs index e

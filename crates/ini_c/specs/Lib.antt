@@ -8,6 +8,7 @@ pub mod Listings
 pub mod Loans
 pub mod LookUps
 pub mod Named
+pub mod Rules
 pub mod Statuses
 pub mod TextEdits
 pub mod Texts

@@ -37,6 +37,7 @@ mod options;
 mod parts;
 mod pieces;
 mod refusal;
+mod rule;
 mod text_edits;
 mod text_keeping;
 mod text_renames;
@@ -77,9 +78,14 @@ pub use crate::pieces::repeated::{
     bigrosk_ini_text_delete_all, bigrosk_ini_text_delete_nth, bigrosk_ini_text_set_all,
     bigrosk_ini_text_set_nth,
 };
+pub use crate::pieces::under_rules::{
+    bigrosk_ini_text_apply_under, bigrosk_ini_text_conflicts_under, bigrosk_ini_text_diff_under,
+    bigrosk_ini_text_merge3_under,
+};
 pub use crate::pieces::values::{
     bigrosk_ini_text_add, bigrosk_ini_text_delete, bigrosk_ini_text_set,
 };
+pub use crate::rule::{LookupChoice, bigrosk_ini_dialect_lookup};
 pub use crate::text_edits::{bigrosk_ini_edit_add, bigrosk_ini_edit_delete, bigrosk_ini_edit_set};
 pub use crate::text_renames::{bigrosk_ini_edit_rename_key, bigrosk_ini_edit_rename_section};
 pub use crate::text_sections::bigrosk_ini_edit_delete_section;

@@ -11,4 +11,5 @@ pub(crate) mod merging;
 pub(crate) mod names;
 pub(crate) mod opening;
 pub(crate) mod repeated;
+pub(crate) mod under_rules;
 pub(crate) mod values;

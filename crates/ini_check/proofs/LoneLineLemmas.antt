@@ -1,7 +1,6 @@
 -- Where keys don't run on, backslashes alone join a key's lines, and no line is dropped.
 use Rattle.std.proofs.Common.{◌≡◌, ◌∙◌, ℕ, Bool, true, false, List, [], ◌∷◌, ◌++◌, append-nil, refl, subst}
-use Rattle.std.proofs.Common.{◌≢◌, append_assoc}
-use Rattle.std.proofs.Common.{ap, eqb-true, inl, inr, ne_eqb, sym}
+use Rattle.std.proofs.Common.{◌≢◌, append_assoc, ap, eqb-true, inl, inr, ne_eqb, sym}
 use Rattle.std.proofs.Math.Bool.{and-false}
 use Rattle.std.proofs.lemmas.Bool.{and_parts, cases_Bool, not-true, or_cases, or_parts}
 use Rattle.std.proofs.lemmas.Option.{cond_some}
@@ -9,9 +8,8 @@ use Rattle.std.specs.Char.{is_digit}
 use Rattle.std.specs.List.{list_all}
 use Rattle.std.specs.Prelude.{◌||◌, ◌&&◌, ◌==◌, not}
 use Rattle.ini.specs.Texts.{Text}
-use Rattle.ini_text.specs.Grammar.CharacterKinds.{backslash, carriage_return, colon, equals, hash}
-use Rattle.ini_text.specs.Grammar.CharacterKinds.{is_blank, is_comment_mark, is_line_end, line_feed, plus}
-use Rattle.ini_text.specs.Grammar.CharacterKinds.{semicolon}
+use Rattle.ini_text.specs.Grammar.CharacterKinds.{backslash, carriage_return, colon, equals, hash, is_blank}
+use Rattle.ini_text.specs.Grammar.CharacterKinds.{is_comment_mark, is_line_end, line_feed, plus, semicolon}
 use Rattle.ini_text.specs.Grammar.Elements.{Element, Gap, Given}
 use Rattle.ini_text.specs.Grammar.EscapeSequences.{EscapeSequence, spelled}
 use Rattle.ini_text.specs.Grammar.Keys.{KeyFront}

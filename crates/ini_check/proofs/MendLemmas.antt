@@ -1,8 +1,6 @@
 -- Mends of a text, one element after another, and one trap after another.
-use Rattle.std.proofs.Common.{◌≡◌, ◌∙◌, ◌++◌, List, [], inl, inr, ap, sym, subst, refl}
-use Rattle.std.proofs.Common.{chars, true, false, Bool, ◌∷◌, arith, length, Err}
-use Rattle.std.proofs.Common.{Option, alloc_error}
-use Rattle.std.proofs.Common.{◌<◌, nat_lt}
+use Rattle.std.proofs.Common.{◌≡◌, ◌∙◌, ◌++◌, List, [], inl, inr, ap, sym, subst, refl, chars, true, false}
+use Rattle.std.proofs.Common.{Bool, ◌∷◌, arith, length, Err, Option, alloc_error, ◌<◌, nat_lt}
 use Rattle.std.proofs.lemmas.Bool.{and_parts, ltb-true}
 use Rattle.std.specs.declared.alloc.Global.{Global}
 use Rattle.std.specs.declared.vec.Vec.{Vec}

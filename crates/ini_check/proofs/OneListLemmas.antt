@@ -9,8 +9,7 @@ use Rattle.std.specs.declared.alloc.Global.{Global}
 use Rattle.std.specs.declared.borrow.CowStr.{CowStr}
 use Rattle.std.specs.Prelude.{◌||◌, ◌==◌}
 use Rattle.ini.specs.Texts.{Text}
-use Rattle.ini_text.specs.Grammar.CharacterKinds.{BeginsWith, BeginsWithNo, is_blank}
-use Rattle.ini_text.specs.Grammar.CharacterKinds.{is_comment_mark}
+use Rattle.ini_text.specs.Grammar.CharacterKinds.{BeginsWith, BeginsWithNo, is_blank, is_comment_mark}
 use Rattle.ini_text.specs.Grammar.CharacterKinds.{is_line_end, open_bracket}
 use Rattle.ini_text.specs.Grammar.Elements.{Header, Pair}
 use Rattle.ini_text.specs.Grammar.Keys.{KeyFront, begins_indented_key, begins_key, begins_note}
@@ -34,12 +33,10 @@ use Rattle.ini_text.proofs.PlaceLemmas.TailLemmas.{found_rest}
 use Rattle.ini_text.proofs.ReaderLemmas.ElementReaderLemmas.{element-finds}
 use Rattle.ini_text.proofs.ReaderLemmas.RunReaderLemmas.{run-finds}
 use Rattle.ini_text.proofs.ReaderLemmas.KeyReaderLemmas.{key_string-reads}
-use Rattle.ini_check.specs.Warnings.{AreWarningsOf, ElementWarns, HeaderWarns, PairWarns, Warns}
-use Rattle.ini_check.specs.Warnings.{header_traps}
+use Rattle.ini_check.specs.Warnings.{AreWarningsOf, ElementWarns, HeaderWarns, PairWarns, Warns, header_traps}
 use Rattle.ini_text.specs.declared.write.policy.EscapePolicy.TheVariants.{Basics}
 use Rattle.ini_check.specs.Warnings.{known, known_of, pair_warnings, seen_after, seen_header, seen_key}
-use Rattle.ini_check.specs.Warnings.{seen_none}
-use Rattle.ini_check.specs.Warnings.{warned_all}
+use Rattle.ini_check.specs.Warnings.{seen_none, warned_all}
 use Rattle.ini_check.specs.declared.seen.Known.{Known}
 use Rattle.ini_check.specs.declared.seen.Seen.{Seen}
 use Rattle.ini_check.specs.declared.warning.Warning.{Warning}

@@ -18,8 +18,7 @@ use Rattle.ini.specs.Texts.{Text}
 use Rattle.ini.specs.Loading.{IfParse, IsStopOf}
 use Rattle.ini_check.specs.Inside.Positions.{IsAt}
 use Rattle.ini_check.specs.Inside.Walks.{IsPastLast, IsReading, StandsWithin, Steps}
-use Rattle.ini_check.specs.Warnings.{Adds, AreWarningsOf, ElementWarns, Warns, known, seen_after}
-use Rattle.ini_check.specs.Warnings.{seen_none}
+use Rattle.ini_check.specs.Warnings.{Adds, AreWarningsOf, ElementWarns, Warns, known, seen_after, seen_none}
 use Rattle.ini_check.specs.declared.position.Position.{Position}
 use Rattle.ini_check.specs.declared.seen.Seen.{Seen}
 use Rattle.ini_check.specs.declared.warning.Warning.{Warning}

@@ -11,8 +11,7 @@ use Rattle.ini_check.specs.Traps.Keys.{comment_runs_on, has_escape, has_key_esca
 use Rattle.ini_check.specs.Traps.Keys.{lower, mark_begins_key, has_equals, has_value_escape, runs_on}
 use Rattle.ini_check.specs.Traps.LostLines.{drops_line}
 use Rattle.ini_check.specs.Traps.Values.{has_comment_mark, has_odd_space}
-use Rattle.ini_check.specs.Warnings.{comment_warnings, inner_warnings, known_nothing, pair_warnings}
-use Rattle.ini_check.specs.Warnings.{warning}
+use Rattle.ini_check.specs.Warnings.{comment_warnings, inner_warnings, known_nothing, pair_warnings, warning}
 use Rattle.ini_check.specs.declared.lexical.LexicalState.TheVariants.{Front}
 use Rattle.ini_check.specs.declared.warning.Trap.TheVariants.{HalfQuote, HeaderInValue, JoinedLine, LoneCr}
 use Rattle.ini_check.specs.declared.warning.Trap.TheVariants.{MarkBeginsKey}

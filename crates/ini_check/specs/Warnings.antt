@@ -1,6 +1,6 @@
 -- The warnings of a text, one element after another.
-use Rattle.std.specs.Prelude.{◌≡◌, ◌↔◌, ◌&&◌, ◌||◌, ◌∷◌, ◌++◌, Bool, true, false, not, List, [], IsTrue, chars}
-use Rattle.std.specs.Prelude.{if◌then◌else◌, ℕ, Option, None, Some}
+use Rattle.std.specs.Prelude.{◌≡◌, ◌↔◌, ◌&&◌, ◌||◌, ◌∷◌, ◌++◌, Bool, true, false, not, List, [], IsTrue}
+use Rattle.std.specs.Prelude.{chars, if◌then◌else◌, ℕ, Option, None, Some}
 use Rattle.ini_text.specs.Grammar.Places as grammar
 use Rattle.ini_text.specs.Grammar.Positions.{column_of, line_of}
 use Rattle.ini_text.specs.Laws.Plain.{IsPlainName, IsPlainPair}

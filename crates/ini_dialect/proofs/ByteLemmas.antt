@@ -1,9 +1,7 @@
 -- Encodings of one byte a character, and what holds of all encodings.
-use Rattle.std.proofs.Common.{◌≡◌, ◌∙◌, ℕ, ◌+◌, ◌-◌, ◌<◌, Bool, true, false, ◌&&◌, ◌||◌, cond}
-use Rattle.std.proofs.Common.{List, [], ◌∷◌}
-use Rattle.std.proofs.Common.{◌++◌, length, Option, None, Some, ap, arith, inl, inr, refl, sym}
-use Rattle.std.proofs.Common.{ltb, leb, eqb, eqb-true, zero, suc}
-use Rattle.std.proofs.Common.{get_or, position, encode_utf8}
+use Rattle.std.proofs.Common.{◌≡◌, ◌∙◌, ℕ, ◌+◌, ◌-◌, ◌<◌, Bool, true, false, ◌&&◌, ◌||◌, cond, List, [], ◌∷◌}
+use Rattle.std.proofs.Common.{◌++◌, length, Option, None, Some, ap, arith, inl, inr, refl, sym, ltb, leb, eqb}
+use Rattle.std.proofs.Common.{eqb-true, zero, suc, get_or, position, encode_utf8}
 use Rattle.std.proofs.lemmas.Str.{encode_same, len_utf8_bounds, length-encode}
 use Rattle.std.proofs.lemmas.Bool.{and_parts, cases_Bool}
 use Rattle.std.proofs.lemmas.Bool.Decides.{nat_tests}

@@ -1,7 +1,6 @@
 -- The default rule answers what the calls of a document answer.
-use Rattle.std.proofs.Common.{◌≡◌, ◌∙◌, Bool, true, false, List, [], ◌∷◌, Option, None, Some, ap, arith}
-use Rattle.std.proofs.Common.{refl, sym}
-use Rattle.std.proofs.Common.{unwrap_or, option_and_then}
+use Rattle.std.proofs.Common.{◌≡◌, ◌∙◌, Bool, true, false, List, [], ◌∷◌, Option, None, Some, ap, arith, refl}
+use Rattle.std.proofs.Common.{sym, unwrap_or, option_and_then}
 use Rattle.std.specs.Map.{lookup}
 use Rattle.ini_multimap.specs.Pairs.{values_at}
 use Rattle.ini.specs.Texts.{Text, is_text}

@@ -23,8 +23,7 @@ use Rattle.ini_dialect.specs.declared.rule.SectionRule.{SectionRule}
 use Rattle.ini_dialect.specs.declared.rule.SectionRule.TheVariants.{First as FirstSection, Joined}
 use Rattle.ini_dialect.specs.declared.rule.ValueRule.{ValueRule}
 use Rattle.ini_dialect.specs.declared.rule.ValueRule.TheVariants.{First as FirstValue}
-use Rattle.ini_dialect.proofs.EditLemmas.{counts-passes, first-here, number-here, same_any}
-use Rattle.ini_dialect.proofs.EditLemmas.{same_test}
+use Rattle.ini_dialect.proofs.EditLemmas.{counts-passes, first-here, number-here, same_any, same_test}
 use Rattle.ini_dialect.proofs.SectionLemmas.{Section, all_values-gathered}
 use Rattle.ini_dialect.proofs.SourceLookupLemmas.{counting-none, counting-nil, nothing-before, seen}
 use Rattle.ini_dialect.proofs.SourceLookupLemmas.{values-lack}

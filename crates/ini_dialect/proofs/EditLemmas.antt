@@ -1,8 +1,6 @@
 -- Items by number, edits of the one that counts, and copies that are edited.
-use Rattle.std.proofs.Common.{◌≡◌, ◌∙◌, ℕ, zero, suc, ◌+◌, Bool, true, false, ◌&&◌, cond, not, List, []}
-use Rattle.std.proofs.Common.{◌∷◌}
-use Rattle.std.proofs.Common.{◌++◌, length, Option, None, Some, IfNone, IfSome, ap, arith, refl, sym}
-use Rattle.std.proofs.Common.{subst}
+use Rattle.std.proofs.Common.{◌≡◌, ◌∙◌, ℕ, zero, suc, ◌+◌, Bool, true, false, ◌&&◌, cond, not, List, [], ◌∷◌}
+use Rattle.std.proofs.Common.{◌++◌, length, Option, None, Some, IfNone, IfSome, ap, arith, refl, sym, subst}
 use Rattle.std.proofs.Common.{append_assoc, append-nil, inl, inr, length-append}
 use Rattle.std.proofs.lemmas.Bool.{cases_Bool, false≢true}
 use Rattle.std.specs.List.{list_any}
@@ -13,8 +11,7 @@ use Rattle.ini.specs.Documents.{Document}
 use Rattle.ini_edit.specs.SourceEditsAt.{at_index}
 use Rattle.ini_dialect.specs.Inside.{IsSettingAt, is_here, less, takes_first, takes_first_value}
 use Rattle.ini_dialect.specs.Lookups.{at_counting, at_first, at_last, delete_by, holds_key, is_named}
-use Rattle.ini_dialect.specs.Lookups.{name_fits}
-use Rattle.ini_dialect.specs.Lookups.{set_by, text_fits, valued, with_value}
+use Rattle.ini_dialect.specs.Lookups.{name_fits, set_by, text_fits, valued, with_value}
 use Rattle.ini_dialect.specs.Numbers.{CountsAt, IsCounting, NonePasses, passes_key}
 use Rattle.ini_dialect.specs.declared.rule.Lookup.{Lookup}
 use Rattle.ini_dialect.specs.declared.rule.SectionRule.{SectionRule}

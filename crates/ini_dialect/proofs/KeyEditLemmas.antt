@@ -14,8 +14,7 @@ use Rattle.ini.specs.Texts.{Text}
 use Rattle.ini_edit.specs.SourceEditsAt.{CommentsOutAtIndex, RenamesAtIndex}
 use Rattle.ini_edit.specs.SourceEditsAt.{at_index, at_section, indexed_pair, indexed_place}
 use Rattle.ini_edit.specs.SourcePlaces.{PairPlace, Place, one_on}
-use Rattle.ini_edit.specs.Sources.{PairPiece, Pieces, SectionPiece, document_in, given_pair}
-use Rattle.ini_edit.specs.Sources.{given_section}
+use Rattle.ini_edit.specs.Sources.{PairPiece, Pieces, SectionPiece, document_in, given_pair, given_section}
 use Rattle.ini_edit.proofs.FirstLemmas.{rest_here}
 use Rattle.ini_dialect.specs.Inside.{renamed_at}
 use Rattle.ini_dialect.specs.KeyEdits.{AreKeysRenamed, CommentsOutUnder, keys_renamed}
@@ -33,10 +32,10 @@ use Rattle.ini_dialect.proofs.SectionLemmas.{all_values-gathered, gathered}
 use Rattle.ini_dialect.proofs.SourceLookupLemmas.{counting-nil, counting-none}
 
 -- one item more before a place
-moved : {X : Type 0} (xs : List X) (y : X) (ys : List X) → (xs ++ y ∷ []) ++ ys ≡ xs ++ y ∷ ys
+pub moved : {X : Type 0} (xs : List X) (y : X) (ys : List X) → (xs ++ y ∷ []) ++ ys ≡ xs ++ y ∷ ys
 moved xs y ys = append_assoc xs (y ∷ []) ys
 
-one-longer : {X : Type 0} (xs : List X) (y : X) → length (xs ++ y ∷ []) ≡ suc (length xs)
+pub one-longer : {X : Type 0} (xs : List X) (y : X) → length (xs ++ y ∷ []) ≡ suc (length xs)
 one-longer [] y = refl
 one-longer (x ∷ xs) y = ap suc (one-longer xs y)
 
@@ -166,7 +165,7 @@ module _ (rule : Lookup) (name : Option Text) (key : Text) where
         | inr apart ↦ rw apart (count_by Joined (suc i) d)
       ]
 
-  count_under : (d : Document)
+  pub count_under : (d : Document)
       → length (numbers_under rule name key d) ≡ length (all_values rule name key d)
   count_under d = count_by rule.sections 0 d ∙ ap length (sym (all_values-gathered rule name key d))
 
@@ -195,16 +194,16 @@ abbrev pub sections_left : Lookup → Option Text → Text → List SectionPiece
 sections_left rule name key ss i = numbers_by rule name key rule.sections i (map given_section (drop i ss))
 
 -- an edit where nothing stands
-unchanged_there : {X Y : Type 0} (view : X → Y) (f : Y → Y) (xs : List X) (i : ℕ) → indexed_place i xs ≡ None
-    → at_index i f (map view xs) ≡ map view xs
+pub none_behind : {X : Type 0} (x : X) (o : Option (Place X)) → option_map (one_on x) o ≡ None → o ≡ None
+none_behind x None h = refl
+none_behind {X} x (Some p) h = absurd (let no : ◌≡◌ {A = Option (Place X)} (Some (one_on x p)) None = h in cc)
+
+pub unchanged_there : {X Y : Type 0} (view : X → Y) (f : Y → Y) (xs : List X) (i : ℕ)
+    → indexed_place i xs ≡ None → at_index i f (map view xs) ≡ map view xs
 unchanged_there view f [] i none = refl
 unchanged_there {X} view f (x ∷ xs) zero none = absurd cc
 unchanged_there {X} view f (x ∷ xs) (suc i) none =
-    ap (λ l. view x ∷ l) (unchanged_there view f xs i (by (indexed_place i xs) none))
-  where
-    by : (o : Option (Place X)) → option_map (one_on x) o ≡ None → o ≡ None
-    by None h = refl
-    by (Some p) h = absurd cc
+    ap (λ l. view x ∷ l) (unchanged_there view f xs i (none_behind x (indexed_place i xs) none))
 
 abbrev placed : Place SectionPiece → Place PairPiece → PairPlace
 placed s p = record { section = s; pair = p }
@@ -227,17 +226,18 @@ none_later : (j : ℕ) (s : SectionPiece) (o : Option (Place SectionPiece))
 none_later j s None h = refl
 none_later j s (Some p) h = none_placed (one_on s p) p (indexed_place j p.here.pairs) h
 
-nothing_there : (f : Text × Text → Text × Text) (ss : List SectionPiece) (i j : ℕ)
-    → indexed_pair i j ss ≡ None
-    → at_section i (at_index j f) (map given_section ss) ≡ map given_section ss
-nothing_there f [] i j none = refl
-nothing_there f (s ∷ ss) zero j none =
+pub nothing_there : (f : Pairs → Pairs) (j : ℕ)
+    → ((ps : List PairPiece) → indexed_place j ps ≡ None → f (map given_pair ps) ≡ map given_pair ps)
+    → (ss : List SectionPiece) (i : ℕ) → indexed_pair i j ss ≡ None
+    → at_section i f (map given_section ss) ≡ map given_section ss
+nothing_there f j same [] i none = refl
+nothing_there f j same (s ∷ ss) zero none =
     ap (λ ps. (s.name, ps) ∷ map given_section ss)
-    (unchanged_there given_pair f s.pairs j
+    (same s.pairs
     (none_there (record { before = []; here = s; after = ss }) (indexed_place j s.pairs) none))
-nothing_there f (s ∷ ss) (suc i) j none =
+nothing_there f j same (s ∷ ss) (suc i) none =
     ap (λ l. given_section s ∷ l)
-    (nothing_there f ss i j (none_later j s (indexed_place i ss) none))
+    (nothing_there f j same ss i (none_later j s (indexed_place i ss) none))
 
 -- keys renamed up to this one of the numbers
 pub record KeysSoFar (policy : EscapePolicy) (other : Text) (numbers : List PairNumber) (old now : Pieces)
@@ -279,8 +279,10 @@ module _ (policy : EscapePolicy) (other : Text) (numbers : List PairNumber) wher
         step false same = (
           ap (λ (p : Pieces). p.option) same.0,
           ap document_in same.0
-              ∙ sym (nothing_there (λ p. (other, p.1)) now.sections (get_or numbers n d).section
-              (get_or numbers n d).pair same.1),
+              ∙ sym (nothing_there (at_index (get_or numbers n d).pair (λ p. (other, p.1)))
+              (get_or numbers n d).pair
+              (λ ps none. unchanged_there given_pair (λ p. (other, p.1)) ps (get_or numbers n d).pair none)
+              now.sections (get_or numbers n d).section same.1),
         )
 
     module _ (all : length numbers ≤ n) where

@@ -1,7 +1,6 @@
 -- Keys that are kept as they come, each once.
 use Rattle.std.proofs.Common.{◌≡◌, ◌∙◌, Bool, true, false, ◌||◌, List, [], ◌∷◌, ◌++◌, cond, fold, map, ap}
-use Rattle.std.proofs.Common.{arith, inl, inr}
-use Rattle.std.proofs.Common.{refl, sym, append_assoc, append-nil, ◌⊎◌}
+use Rattle.std.proofs.Common.{arith, inl, inr, refl, sym, append_assoc, append-nil, ◌⊎◌}
 use Rattle.std.proofs.lemmas.Bool.{cases_Bool, false≢true}
 use Rattle.std.proofs.lemmas.List.Folds.{list_any-append}
 use Rattle.std.specs.Cmp.{IsEquivalence}

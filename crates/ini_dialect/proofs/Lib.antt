@@ -11,6 +11,9 @@ pub mod KeyEditLemmas
 pub mod KeyLawLemmas
 pub mod KeyLemmas
 pub mod LetterLemmas
+pub mod ListLemmas
+pub mod ListEditLemmas
+pub mod ListLawLemmas
 pub mod LookupLawLemmas
 pub mod MarkLemmas
 pub mod PairLemmas

@@ -1,7 +1,6 @@
 -- The laws of edits under a rule: the look-up finds what was set, and all others what they found.
-use Rattle.std.proofs.Common.{◌≡◌, ◌∙◌, Bool, true, false, ◌&&◌, cond, [], ◌∷◌, ◌++◌, Option, None}
-use Rattle.std.proofs.Common.{Some, ap, arith, inl, inr, refl, sym}
-use Rattle.std.proofs.Common.{append-nil}
+use Rattle.std.proofs.Common.{◌≡◌, ◌∙◌, Bool, true, false, ◌&&◌, cond, [], ◌∷◌, ◌++◌, Option, None, Some, ap}
+use Rattle.std.proofs.Common.{arith, inl, inr, refl, sym, append-nil}
 use Rattle.std.proofs.lemmas.Bool.{cases_Bool, false≢true}
 use Rattle.std.specs.List.{last_or, list_any}
 use Rattle.ini_multimap.specs.Pairs.{values_at}
@@ -33,10 +32,10 @@ module _ (rule : Lookup) (name : Option Text) (key : Text) where
   abbrev test : Text → Bool
   test k = text_fits rule.case key k
 
-  key_fits : test key ≡ true
+  pub key_fits : test key ≡ true
   key_fits = (texts_equiv rule.case).refl key
 
-  name_fits_itself : named name ≡ true
+  pub name_fits_itself : named name ≡ true
   name_fits_itself = (names_equiv rule.case).refl name
 
   -- where no section of the name has the key there is no value
@@ -49,7 +48,7 @@ module _ (rule : Lookup) (name : Option Text) (key : Text) where
     abbrev one : Pairs
     one = (key, value) ∷ []
 
-    one-values : values_at test one ≡ value ∷ []
+    pub one-values : values_at test one ≡ value ∷ []
     one-values = grind (arith, key_fits)
 
     valued-there : (ps : Pairs)
@@ -206,7 +205,7 @@ module _ (rule : Lookup) (name : Option Text) (key : Text) (n : Option Text) (k 
       ∙ away
 
   module _ (value : Text) where
-    one-none : text_fits rule.case k key ≡ false → values_at test_k ((key, value) ∷ []) ≡ []
+    pub one-none : text_fits rule.case k key ≡ false → values_at test_k ((key, value) ∷ []) ≡ []
     one-none away = grind (arith, away)
 
     valued-same : text_fits rule.case k key ≡ false → (ps : Pairs)
@@ -231,7 +230,7 @@ module _ (rule : Lookup) (name : Option Text) (key : Text) (n : Option Text) (k 
     holds-named : (s : Section) → holds_key rule name key s ≡ true → is_named rule name s ≡ true
     holds-named s there = grind (arith, there)
 
-    new-same : (sections : SectionRule) (d : Document)
+    pub new-same : (sections : SectionRule) (d : Document)
         → gathered sections named_n test_k (d ++ (name, (key, value) ∷ []) ∷ [])
         ≡ gathered sections named_n test_k d
     new-same sections d =

@@ -1,7 +1,6 @@
 -- The values of a key among pairs that were edited.
-use Rattle.std.proofs.Common.{◌≡◌, ◌∙◌, Bool, true, false, List, [], ◌∷◌, ◌++◌, Option, None, Some, ap}
-use Rattle.std.proofs.Common.{arith, refl, sym}
-use Rattle.std.proofs.Common.{append-nil}
+use Rattle.std.proofs.Common.{◌≡◌, ◌∙◌, Bool, true, false, List, [], ◌∷◌, ◌++◌, Option, None, Some, ap, arith}
+use Rattle.std.proofs.Common.{refl, sym, append-nil}
 use Rattle.std.proofs.lemmas.Bool.{false≢true}
 use Rattle.std.specs.List.{last_or, list_any}
 use Rattle.ini_multimap.specs.Pairs.{values_at, without}

@@ -36,8 +36,7 @@ use Rattle.ini_dialect.specs.declared.rule.ValueRule.{ValueRule}
 use Rattle.ini_dialect.specs.declared.source.PairNumber.{PairNumber}
 use Rattle.ini_dialect.proofs.EditLemmas.{same_any}
 use Rattle.ini_dialect.proofs.RuleLemmas.{names_equiv}
-use Rattle.ini_dialect.proofs.SourceLookupLemmas.{added_set, counts-read, counts-within, pair_added}
-use Rattle.ini_dialect.proofs.SourceLookupLemmas.{pair_set}
+use Rattle.ini_dialect.proofs.SourceLookupLemmas.{added_set, counts-read, counts-within, pair_added, pair_set}
 
 -- a number that counts is within its list
 counts-below : {X : Type 0} {order : ValueRule} {test : X → Bool} {xs : List X} {number : ℕ}

@@ -1,7 +1,6 @@
 -- A look-up that walks from the end that counts answers the value that counts.
-use Rattle.std.proofs.Common.{◌≡◌, ◌∙◌, Bool, cond, List, [], ◌∷◌, ◌++◌, reverse, Option, None}
-use Rattle.std.proofs.Common.{Some}
-use Rattle.std.proofs.Common.{ap, arith, fold, refl, sym}
+use Rattle.std.proofs.Common.{◌≡◌, ◌∙◌, Bool, cond, List, [], ◌∷◌, ◌++◌, reverse, Option, None, Some, ap}
+use Rattle.std.proofs.Common.{arith, fold, refl, sym}
 use Rattle.std.proofs.lemmas.Grind.{fold-append, reverse_onto}
 use Rattle.std.specs.List.{last_or}
 use Rattle.std.specs.Map.{lookup}
@@ -11,8 +10,7 @@ use Rattle.ini.specs.Texts.{Text}
 use Rattle.ini.specs.Properties.{Pairs}
 use Rattle.ini.specs.Documents.{Document}
 use Rattle.ini_dialect.specs.Inside.{kept, turned, value_in_first, value_in_joined}
-use Rattle.ini_dialect.specs.Lookups.{counting, joined, keys_under, looked, name_fits, names_under}
-use Rattle.ini_dialect.specs.Lookups.{text_fits}
+use Rattle.ini_dialect.specs.Lookups.{counting, joined, keys_under, looked, name_fits, names_under, text_fits}
 use Rattle.ini_dialect.specs.Lookups.{value_under}
 use Rattle.ini_dialect.specs.declared.rule.Lookup.{Lookup}
 use Rattle.ini_dialect.specs.declared.rule.SectionRule.{SectionRule}

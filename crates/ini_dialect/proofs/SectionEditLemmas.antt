@@ -27,8 +27,8 @@ use Rattle.ini_edit.specs.declared.error.EditError.TheVariants.{Key, Name, NoPla
 use Rattle.ini_edit.specs.declared.error.EditError.TheVariants.{Text as TextError}
 use Rattle.ini_dialect.specs.Inside.{IsFirstName}
 use Rattle.ini_dialect.specs.Lookups.{name_fits}
-use Rattle.ini_dialect.specs.SectionEdits.{AreEachMade, IsFirstNamed, IsSectionDeleted, has_fitting, is_sought}
-use Rattle.ini_dialect.specs.SectionEdits.{renamed_by}
+use Rattle.ini_dialect.specs.SectionEdits.{AreEachMade, IsFirstNamed, IsSectionDeleted, has_fitting}
+use Rattle.ini_dialect.specs.SectionEdits.{is_sought, renamed_by}
 use Rattle.ini_dialect.specs.declared.rule.CaseRule.{CaseRule}
 use Rattle.ini_dialect.specs.declared.rule.CaseRule.TheVariants.{Kept}
 use Rattle.ini_dialect.specs.declared.rule.SectionRule.TheVariants.{Joined}

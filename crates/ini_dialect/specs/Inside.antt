@@ -1,16 +1,20 @@
 -- Words of private functions: sections and pairs from the end that counts, their numbers, and copies.
 use Rattle.std.specs.Prelude.{◌≡◌, ℕ, zero, suc, Bool, true, false, if◌then◌else◌, List, [], ◌∷◌, ◌++◌}
 use Rattle.std.specs.Prelude.{reverse, Option, None, Some}
-use Rattle.std.specs.List.{list_any}
+use Rattle.std.specs.List.{list_any, remove}
 use Rattle.std.specs.Map.{lookup}
 use Rattle.std.specs.Option.{option_or}
 use Rattle.ini.specs.Texts.{Text}
 use Rattle.ini.specs.Documents.{Document}
+use Rattle.ini.specs.Properties.{Pairs}
 use Rattle.ini_edit.specs.SourceEdits.{first_fitting}
 use Rattle.ini_edit.specs.SourceEditsAt.{at_index, at_section}
 use Rattle.ini_edit.specs.Sources.{SectionPiece}
+use Rattle.ini_dialect.specs.Flattened.{put_by, put_last}
 use Rattle.ini_dialect.specs.Lookups.{name_fits, set_under, text_fits, with_value}
 use Rattle.ini_dialect.specs.SectionEdits.{IsFirstNamed}
+use Rattle.ini_dialect.specs.declared.flattened.WhichPairs.{WhichPairs}
+use Rattle.ini_dialect.specs.declared.flattened.WhichPairs.TheVariants.{Counting, All as AllPairs}
 use Rattle.ini_dialect.specs.declared.rule.Lookup.{Lookup}
 use Rattle.ini_dialect.specs.declared.rule.SectionRule.{SectionRule}
 use Rattle.ini_dialect.specs.declared.rule.SectionRule.TheVariants.{First as FirstSection, Joined}
@@ -77,6 +81,23 @@ abbrev pub renamed_at : (other : Text) → List PairNumber → Document → Docu
 renamed_at other [] d = d
 renamed_at other (at ∷ numbers) d =
     renamed_at other numbers (at_section at.section (at_index at.pair (λ p. (other, p.1))) d)
+
+-- how a pair is put where documents are put together
+abbrev pub put_of : WhichPairs → Text → Text → Pairs → Pairs
+put_of (Counting values) key value ps = put_by values key value ps
+put_of AllPairs key value ps = put_last key value ps
+
+-- the document in which the pairs of these numbers have these values, as far as there are both
+abbrev pub values_put : List PairNumber → List Text → Document → Document
+values_put numbers [] d = d
+values_put [] (value ∷ values) d = d
+values_put (at ∷ numbers) (value ∷ values) d =
+    values_put numbers values (at_section at.section (at_index at.pair (λ p. (p.0, value))) d)
+
+-- and the one without the pairs of these numbers, the last of which goes first
+abbrev pub taken_out : List PairNumber → Document → Document
+taken_out [] d = d
+taken_out (at ∷ numbers) d = at_section at.section (λ ps. remove ps at.pair) (taken_out numbers d)
 
 -- the first of the sections that passes has this name; or there is none
 abbrev pub IsFirstName : (Option Text → Bool) → List SectionPiece → Option Text → Type 0

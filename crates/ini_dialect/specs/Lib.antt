@@ -7,6 +7,8 @@ pub mod Flattened
 pub mod Guesses
 pub mod Inside
 pub mod KeyEdits
+pub mod Lists
+pub mod ListEdits
 pub mod LookupLaws
 pub mod Lookups
 pub mod Numbers

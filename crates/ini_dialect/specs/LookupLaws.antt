@@ -5,8 +5,7 @@ use Rattle.ini.specs.Properties.{distinct}
 use Rattle.ini.specs.Documents.{Document, first_section, names, value_in}
 use Rattle.ini.specs.EditLaws.{values_in}
 use Rattle.ini_dialect.specs.KeyEdits.{keys_renamed}
-use Rattle.ini_dialect.specs.Lookups.{all_values, delete_under, keys_under, name_fits, names_under}
-use Rattle.ini_dialect.specs.Lookups.{set_under}
+use Rattle.ini_dialect.specs.Lookups.{all_values, delete_under, keys_under, name_fits, names_under, set_under}
 use Rattle.ini_dialect.specs.Lookups.{text_fits, value_under}
 use Rattle.ini_dialect.specs.SectionEdits.{sections_removed}
 use Rattle.ini_dialect.specs.declared.rule.Lookup.{Lookup}

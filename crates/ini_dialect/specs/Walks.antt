@@ -11,8 +11,7 @@ use Rattle.ini_dialect.specs.declared.walk.AnyDocument.TheVariants.{Ini as IniDo
 use Rattle.ini_dialect.specs.declared.walk.AnyDocument.TheVariants.{Source as SourceDocument}
 use Rattle.ini_dialect.specs.declared.walk.AnyDocument.TheVariants.{View as ViewDocument}
 use Rattle.ini_dialect.specs.declared.walk.AnySection.{AnySection}
-use Rattle.ini_dialect.specs.declared.walk.AnySection.TheVariants.{Ini as IniSection}
-use Rattle.ini_dialect.specs.declared.walk.AnySection.TheVariants.{Source as SourceSection}
+use Rattle.ini_dialect.specs.declared.walk.AnySection.TheVariants.{Ini as IniSection, Source as SourceSection}
 use Rattle.ini_dialect.specs.declared.walk.AnySection.TheVariants.{View as ViewSection}
 use Rattle.ini_dialect.specs.declared.walk.PairWalk.{PairWalk}
 use Rattle.ini_dialect.specs.declared.walk.PairWalk.TheVariants.{Ini as IniPairs, Source as SourcePairs}

@@ -121,7 +121,7 @@ impl Encoding {
 }
 
 // Puts a character last: std's call, with a clause that speaks of characters.
-fn push_character(text: &mut String, character: char) -> Result<(), AllocError>
+pub(crate) fn push_character(text: &mut String, character: char) -> Result<(), AllocError>
     ensures { OnOk result
         (chars (string_bytes text.new) ≡ chars (string_bytes text.old) ++ character ∷ []) }
 {

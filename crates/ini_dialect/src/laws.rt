@@ -5,6 +5,7 @@ ghost use Rattle.ini.specs.Texts.{Text};
 ghost use Rattle.ini_dialect.specs.EncodingLaws.{BeginsWithMark, ChangesInside};
 ghost use Rattle.ini_dialect.specs.EncodingNames.{marked};
 ghost use Rattle.ini_dialect.specs.Encodings.{IsDecoded, IsMalformedAt, IsUnencodableAt, encoded};
+ghost use Rattle.ini_dialect.specs.Lists.{AreReadBack, list_text};
 ghost use Rattle.ini_dialect.specs.LookupLaws.{AnswersAsCrate, AnswersNothing, AnswersSet};
 ghost use Rattle.ini_dialect.specs.LookupLaws.{KeepsOtherLookups, KeepsOtherSections, KeepsUnrenamed};
 ghost use Rattle.ini_dialect.specs.LookupLaws.{LosesSections, MovesValues};
@@ -44,6 +45,13 @@ pub fn renamed_keys_are_found()
 pub fn deleted_sections_are_gone()
     ensures gone { (rule : Lookup) (name : Text) → LosesSections rule name }
     ensures others { (rule : Lookup) (name : Text) → KeepsOtherSections rule name }
+{}
+
+/// The list of values that `list_text` writes is read back by `list_values`; so two lists of values have the
+/// same text only where they are the same.
+pub fn lists_are_read_back()
+    ensures back { (values : List Text) → AreReadBack values }
+    ensures same { (values others : List Text) → list_text values ≡ list_text others → values ≡ others }
 {}
 
 /// By the default rule a look-up answers what `get_from`, `get_all`, `sections` and a walk over the first

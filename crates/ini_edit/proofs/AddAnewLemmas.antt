@@ -1,6 +1,6 @@
 -- A new pair added to a text in pieces, in a new section.
-use Rattle.std.proofs.Common.{◌≡◌, ◌∙◌, ℕ, Bool, true, List, [], ◌∷◌, ◌++◌, None, Option, Some, ap, length, map}
-use Rattle.std.proofs.Common.{refl, subst, sym}
+use Rattle.std.proofs.Common.{◌≡◌, ◌∙◌, ℕ, Bool, true, List, [], ◌∷◌, ◌++◌, None, Option, Some, ap, length}
+use Rattle.std.proofs.Common.{map, refl, subst, sym}
 use Rattle.std.specs.Option.{option_map}
 use Rattle.std.specs.Prelude.{IsSomeAnd}
 use Rattle.ini_text.specs.Laws.Plain.{IsPlainName}
@@ -18,7 +18,8 @@ use Rattle.ini_edit.specs.SourceEditsAdded.{new_line_end}
 use Rattle.ini_edit.specs.SourceEditsSections.{after_new_section, ended_for_section, section_put}
 use Rattle.ini_edit.specs.SourcePlaces.{Place, edited_at, last_before_gap, last_before_section, last_gap}
 use Rattle.ini_edit.specs.SourcePlaces.{last_place, section_place}
-use Rattle.ini_edit.specs.SourceWritten.{IsFirstReadAs, IsWritableNew, Style, new_pair, new_style, value_forms}
+use Rattle.ini_edit.specs.SourceWritten.{IsFirstReadAs, IsWritableNew, Style, new_pair, new_style}
+use Rattle.ini_edit.specs.SourceWritten.{value_forms}
 use Rattle.ini_edit.specs.Sources.{Pieces, SectionPiece, given_section}
 use Rattle.ini_edit.specs.declared.error.EditError.{EditError}
 use Rattle.ini_edit.specs.declared.source.written.NewPair.{NewPair}

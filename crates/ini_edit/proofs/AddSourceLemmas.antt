@@ -14,8 +14,7 @@ use Rattle.ini.specs.Texts.{Text}
 use Rattle.ini_edit.specs.Inside.SourceEnds.{IsFound, IsNewPair, IsNoPlaceOrMemory, IsPlaceAt, made_pair}
 use Rattle.ini_edit.specs.Inside.SourceEnds.{style_at}
 use Rattle.ini_edit.specs.Inside.Spans.{AreSections}
-use Rattle.ini_edit.specs.SourceEditsAdd.{GapPlace, Maker, end_at, first_place, pair_put_first}
-use Rattle.ini_edit.specs.SourceEditsAdd.{pair_put_last}
+use Rattle.ini_edit.specs.SourceEditsAdd.{GapPlace, Maker, end_at, first_place, pair_put_first, pair_put_last}
 use Rattle.ini_edit.specs.SourceEditsAdded.{IsAddedIn, RefusesAdding, added, added_at, added_new, made}
 use Rattle.ini_edit.specs.SourceEditsAdded.{new_line_end, style_after}
 use Rattle.ini_edit.specs.SourceEdits.{with_pairs}

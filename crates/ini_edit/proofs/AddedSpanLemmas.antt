@@ -1,7 +1,6 @@
 -- Spans of a text up to its last gap, of which a front is kept, and other spans after it.
-use Rattle.std.proofs.Common.{◌≡◌, ◌≢◌, ◌∙◌, ◌≤◌, arith, length, ℕ, Bool, true, false, cond, List, []}
-use Rattle.std.proofs.Common.{◌∷◌, ◌++◌}
-use Rattle.std.proofs.Common.{Option, ap, append_assoc, append-nil, refl, subst, sym}
+use Rattle.std.proofs.Common.{◌≡◌, ◌≢◌, ◌∙◌, ◌≤◌, arith, length, ℕ, Bool, true, false, cond, List, [], ◌∷◌}
+use Rattle.std.proofs.Common.{◌++◌, Option, ap, append_assoc, append-nil, refl, subst, sym}
 use Rattle.ini_text.specs.Grammar.CharacterKinds.{BeginsWith, is_line_end, is_line_feed, line_feed}
 use Rattle.ini_text.specs.Grammar.Elements.{Element, Header}
 use Rattle.ini_text.specs.Grammar.Pieces.{pieces_text}

@@ -1,7 +1,6 @@
 -- A row of elements that no line end follows stands before other texts too.
 use Rattle.std.proofs.Common.{◌≡◌, ◌≢◌, ℕ, Bool, true, false, not, ◌||◌, eqb, List, [], ◌∷◌, ◌++◌, refl, sym}
-use Rattle.std.proofs.Common.{ap, ◌∙◌}
-use Rattle.std.proofs.Common.{subst, append_assoc, append-nil, eqb-true, inl, inr}
+use Rattle.std.proofs.Common.{ap, ◌∙◌, subst, append_assoc, append-nil, eqb-true, inl, inr}
 use Rattle.std.specs.Prelude.{◌⊎◌}
 use Rattle.std.specs.List.{list_all}
 use Rattle.std.proofs.lemmas.Bool.{both_ways, false≢true, and_parts, or_parts, not-true, false_from_ne_true}

@@ -1,13 +1,10 @@
 -- Lines after a value, which give line feeds alone: the quiet ones at their end are lines of a value too.
-use Rattle.std.proofs.Common.{◌≡◌, ◌≢◌, ◌∙◌, ◌==◌, ◌&&◌, ◌||◌, ℕ, Bool, true, false, not, []}
-use Rattle.std.proofs.Common.{◌∷◌, ◌++◌, ap, if◌then◌else◌}
-use Rattle.std.proofs.Common.{refl, subst, sym}
-use Rattle.std.proofs.lemmas.Bool.{and_parts, both_ways}
-use Rattle.std.proofs.lemmas.Bool.{false≢true}
+use Rattle.std.proofs.Common.{◌≡◌, ◌≢◌, ◌∙◌, ◌==◌, ◌&&◌, ◌||◌, ℕ, Bool, true, false, not, [], ◌∷◌, ◌++◌, ap}
+use Rattle.std.proofs.Common.{if◌then◌else◌, refl, subst, sym}
+use Rattle.std.proofs.lemmas.Bool.{and_parts, both_ways, false≢true}
 use Rattle.std.specs.List.{list_all}
-use Rattle.ini_text.specs.Grammar.CharacterKinds.{BeginsWithNo, carriage_return}
-use Rattle.ini_text.specs.Grammar.CharacterKinds.{is_blank, is_comment_mark, is_inline_white, is_line_end}
-use Rattle.ini_text.specs.Grammar.CharacterKinds.{is_line_feed, line_feed}
+use Rattle.ini_text.specs.Grammar.CharacterKinds.{BeginsWithNo, carriage_return, is_blank, is_comment_mark}
+use Rattle.ini_text.specs.Grammar.CharacterKinds.{is_inline_white, is_line_end, is_line_feed, line_feed}
 use Rattle.ini_text.specs.Grammar.Keys.{begins_note}
 use Rattle.ini_text.specs.Grammar.Places.{TrailingLines}
 use Rattle.ini_text.specs.Grammar.Positions.{last_or}
@@ -17,9 +14,8 @@ use Rattle.ini_text.specs.Options.Backslashes.{begins_escape}
 use Rattle.ini_text.specs.Options.ReadOptions.{backslash_of}
 use Rattle.ini_text.specs.declared.option.ParseOption.{ParseOption}
 use Rattle.ini.specs.Texts.{Text}
-use Rattle.ini_edit.specs.SourceLines.{LinePlace, are_quiet, ends_in_line}
-use Rattle.ini_edit.specs.SourceLines.{is_line, is_line_from, next_within, next_place, quiet_lines_at_end}
-use Rattle.ini_edit.specs.SourceLines.{quiet_lines_from}
+use Rattle.ini_edit.specs.SourceLines.{LinePlace, are_quiet, ends_in_line, is_line, is_line_from, next_within}
+use Rattle.ini_edit.specs.SourceLines.{next_place, quiet_lines_at_end, quiet_lines_from}
 use Rattle.std.proofs.Common.{arith, length, length-append}
 use Rattle.ini_edit.proofs.QuietWalkLemmas.{PassedLast, PassedLine, feeds_left, feeds_right, passed_comment}
 use Rattle.ini_edit.proofs.QuietWalkLemmas.{passed_last, passed_last_comment, passed_line, past_end}

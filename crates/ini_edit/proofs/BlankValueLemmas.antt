@@ -2,8 +2,7 @@
 use Rattle.std.proofs.Common.{◌≡◌, ◌∙◌, ◌⊎◌, ◌==◌, ◌&&◌, ℕ, Bool, true, false, not, [], ◌∷◌, ◌++◌, ap}
 use Rattle.std.proofs.Common.{append_assoc, eqb-true, inl, inr, refl, subst, sym}
 use Rattle.std.proofs.lemmas.Bool.{and_from, and_parts, both_ways, false≢true, false_from_ne_true}
-use Rattle.std.proofs.lemmas.Bool.{not_from_false}
-use Rattle.std.proofs.lemmas.Bool.{or_from, or_left, or_parts, or_right}
+use Rattle.std.proofs.lemmas.Bool.{not_from_false, or_from, or_left, or_parts, or_right}
 use Rattle.std.specs.List.{list_all}
 use Rattle.ini_text.specs.Grammar.CharacterKinds.{BeginsWith, BeginsWithNo, carriage_return, is_blank}
 use Rattle.ini_text.specs.Grammar.CharacterKinds.{is_comment_mark, is_inline_white, is_line_end, is_line_feed}
@@ -17,8 +16,7 @@ use Rattle.ini_text.specs.Grammar.CharacterKinds.{begins}
 use Rattle.ini_text.specs.declared.option.ParseOption.{ParseOption}
 use Rattle.ini_text.proofs.GrammarLemmas.KindLemmas.{blank_inline, line_end_no_blank}
 use Rattle.ini.specs.Texts.{Text}
-use Rattle.ini_edit.specs.SourceLines.{is_blank_or_line_end}
-use Rattle.ini_edit.specs.SourceLines.{ends_line, has_lone_return}
+use Rattle.ini_edit.specs.SourceLines.{is_blank_or_line_end, ends_line, has_lone_return}
 use Rattle.ini_edit.proofs.BlankLineLemmas.{AreBlank}
 
 all_inline : (w : Text) → list_all is_blank w ≡ true → list_all is_inline_white w ≡ true

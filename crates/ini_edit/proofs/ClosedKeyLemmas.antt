@@ -3,8 +3,7 @@
 use Rattle.std.proofs.Common.{◌≡◌, ◌∙◌, ◌||◌, ℕ, Bool, true, false, not, eqb, if◌then◌else◌, [], ◌∷◌, ◌++◌}
 use Rattle.std.proofs.Common.{ap, append_assoc, append-nil, arith, inl, inr, length, length-append, refl}
 use Rattle.std.proofs.Common.{subst, sym}
-use Rattle.std.proofs.lemmas.Bool.{both_ways, cases_Bool, cond-true, eqb-false, false≢true, or_left}
-use Rattle.std.proofs.lemmas.Bool.{or_right}
+use Rattle.std.proofs.lemmas.Bool.{both_ways, cases_Bool, cond-true, eqb-false, false≢true, or_left, or_right}
 use Rattle.std.specs.Char.{is_whitespace}
 use Rattle.ini_text.specs.Grammar.CharacterKinds.{backslash, is_blank, is_comment_mark, is_line_end}
 use Rattle.ini_text.specs.Grammar.CharacterKinds.{is_separator, letter_x, line_feed, space, BeginsWith}

@@ -13,9 +13,8 @@ use Rattle.ini_text.specs.Grammar.Values.{LineEnd, MoreLines, Value}
 use Rattle.ini_text.specs.Options.WriteOptions.{line_end}
 use Rattle.ini_text.specs.declared.option.ParseOption.{ParseOption}
 use Rattle.ini_text.specs.declared.write.option.LineSeparator.{LineSeparator}
-use Rattle.ini_text.proofs.LawLemmas.OneAheadLemmas.{Alike, Alike-some, CommentLine-before}
-use Rattle.ini_text.proofs.LawLemmas.OneAheadLemmas.{EndedLine-before, GoesOn-before, Line-alike}
-use Rattle.ini_text.proofs.LawLemmas.OneAheadLemmas.{LineEnd-alike}
+use Rattle.ini_text.proofs.LawLemmas.OneAheadLemmas.{Alike, Alike-some, CommentLine-before, EndedLine-before}
+use Rattle.ini_text.proofs.LawLemmas.OneAheadLemmas.{GoesOn-before, Line-alike, LineEnd-alike}
 use Rattle.ini_text.proofs.PlainLemmas.PlainPairLemmas.{line_end-is}
 use Rattle.ini_text.proofs.ReaderLemmas.ValueReaderLemmas.{line_end-some}
 use Rattle.ini.specs.Texts.{Text}

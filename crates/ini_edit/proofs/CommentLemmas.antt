@@ -3,8 +3,7 @@ use Rattle.std.proofs.Common.{◌≡◌, ℕ, Bool, true, false, not, ◌||◌, 
 use Rattle.std.proofs.Common.{subst, append_assoc, append-nil}
 use Rattle.std.proofs.lemmas.Bool.{both_ways, false≢true, false_from_ne_true, or_left, or_right}
 use Rattle.std.specs.Char.{is_whitespace}
-use Rattle.ini_text.specs.Grammar.CharacterKinds.{is_blank, is_comment_mark}
-use Rattle.ini_text.specs.Grammar.CharacterKinds.{BeginsWith}
+use Rattle.ini_text.specs.Grammar.CharacterKinds.{is_blank, is_comment_mark, BeginsWith}
 use Rattle.ini_text.specs.Grammar.Elements.{Given, Element}
 use Rattle.ini_text.specs.Grammar.Keys.{Indentation, KeyFront, begins_key}
 use Rattle.ini_text.specs.Grammar.CharacterKinds.{begins}

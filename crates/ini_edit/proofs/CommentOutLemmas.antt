@@ -1,7 +1,6 @@
 -- A pair of a text in pieces made comments: each of its lines after a mark, up to its line end.
-use Rattle.std.proofs.Common.{◌≡◌, ◌≢◌, ◌∙◌, ◌==◌, ◌&&◌, ℕ, Bool, true, false, not, [], ◌∷◌}
-use Rattle.std.proofs.Common.{◌++◌, ap, append_assoc, append-nil, eqb-true, if◌then◌else◌, inl, inr, refl}
-use Rattle.std.proofs.Common.{subst, sym}
+use Rattle.std.proofs.Common.{◌≡◌, ◌≢◌, ◌∙◌, ◌==◌, ◌&&◌, ℕ, Bool, true, false, not, [], ◌∷◌, ◌++◌, ap}
+use Rattle.std.proofs.Common.{append_assoc, append-nil, eqb-true, if◌then◌else◌, inl, inr, refl, subst, sym}
 use Rattle.std.proofs.lemmas.Bool.{and_parts, both_ways, false≢true, or_cases}
 use Rattle.ini_text.specs.Grammar.CharacterKinds.{BeginsWithNo, carriage_return, is_comment_mark, is_line_end}
 use Rattle.ini_text.specs.Grammar.CharacterKinds.{is_line_feed, line_feed, semicolon, space}
@@ -26,8 +25,7 @@ use Rattle.ini_edit.specs.Sources.{PairPiece, has_separator, is_multiline}
 use Rattle.ini_edit.proofs.BlankLineLemmas.{line_last, trailing_ends}
 use Rattle.ini_edit.proofs.CommentLineLemmas.{longer_pair}
 use Rattle.ini_edit.proofs.CommentRowLemmas.{AreRows, IsNewLine, ends_row, marked_gap}
-use Rattle.ini_edit.proofs.DeletedLinesLemmas.{IsLineEnd, end_is, end_last, none_unended, own_of}
-use Rattle.ini_edit.proofs.DeletedLinesLemmas.{quiet_after}
+use Rattle.ini_edit.proofs.DeletedLinesLemmas.{IsLineEnd, end_is, end_last, none_unended, own_of, quiet_after}
 use Rattle.ini_edit.proofs.GapLemmas.{gap_join}
 use Rattle.ini_edit.proofs.LineCutLemmas.{OwnCut, own_cut, past_nothing, text_closes}
 use Rattle.ini_edit.proofs.PairViewLemmas.{goes_on, one_line}

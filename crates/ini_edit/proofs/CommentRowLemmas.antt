@@ -1,8 +1,7 @@
 -- Rows of comment lines: which texts are such, that they are a gap, and where one begins at a gap's end.
 use Rattle.std.proofs.Common.{◌≡◌, ◌≢◌, ◌∙◌, ℕ, Bool, true, false, not, ◌&&◌, ◌||◌, [], ◌∷◌, ◌++◌, ap}
 use Rattle.std.proofs.Common.{◌==◌, append_assoc, append-nil, eqb-true, inl, inr, refl, subst, sym}
-use Rattle.std.proofs.lemmas.Bool.{and_from, and_parts, cases_Bool, false≢true, not-false}
-use Rattle.std.proofs.lemmas.Bool.{not-true, or_cases}
+use Rattle.std.proofs.lemmas.Bool.{and_from, and_parts, cases_Bool, false≢true, not-false, not-true, or_cases}
 use Rattle.std.specs.List.{list_all}
 use Rattle.std.specs.Prelude.{if◌then◌else◌}
 use Rattle.ini_text.specs.Grammar.CharacterKinds.{BeginsWith, carriage_return, is_comment_mark, is_line_feed}

@@ -1,8 +1,7 @@
 -- A key alone taken out after a multiline value: its line end goes, or is an empty line of that value; or an
 -- empty comment keeps what follows apart from the value.
-use Rattle.std.proofs.Common.{◌≡◌, ◌∙◌, ◌&&◌, ℕ, Bool, true, false, not, [], ◌∷◌, ◌++◌, ap}
-use Rattle.std.proofs.Common.{append-nil, eqb-true}
-use Rattle.std.proofs.Common.{if◌then◌else◌, inl, inr, refl, subst, sym}
+use Rattle.std.proofs.Common.{◌≡◌, ◌∙◌, ◌&&◌, ℕ, Bool, true, false, not, [], ◌∷◌, ◌++◌, ap, append-nil}
+use Rattle.std.proofs.Common.{eqb-true, if◌then◌else◌, inl, inr, refl, subst, sym}
 use Rattle.std.specs.Prelude.{is_some}
 use Rattle.std.proofs.lemmas.Bool.{and_parts, both_ways, false_from_ne_true, false≢true, not_from_true}
 use Rattle.std.proofs.lemmas.Bool.{or_cases}

@@ -4,9 +4,8 @@ use Rattle.std.proofs.Common.{◌≡◌, ◌≢◌, ◌∙◌, ◌==◌, ◌&&�
 use Rattle.std.proofs.Common.{◌++◌, ap, append-nil, eqb-true, if◌then◌else◌, inl, inr, refl, subst, sym}
 use Rattle.std.proofs.lemmas.Bool.{and_from, and_parts, both_ways, cond-true, false≢true}
 use Rattle.std.proofs.lemmas.Bool.{not_from_true, not-false, or_cases, or_parts}
-use Rattle.ini_text.specs.Grammar.CharacterKinds.{BeginsWith, BeginsWithNo, carriage_return}
-use Rattle.ini_text.specs.Grammar.CharacterKinds.{is_comment_mark, is_line_end, is_line_feed, line_feed}
-use Rattle.ini_text.specs.Grammar.CharacterKinds.{space}
+use Rattle.ini_text.specs.Grammar.CharacterKinds.{BeginsWith, BeginsWithNo, carriage_return, is_comment_mark}
+use Rattle.ini_text.specs.Grammar.CharacterKinds.{is_line_end, is_line_feed, line_feed, space}
 use Rattle.ini_text.specs.Grammar.Elements.{Element, Gap}
 use Rattle.ini_text.specs.Grammar.Places.{TrailingLines}
 use Rattle.ini_text.specs.Grammar.Positions.{last_or}
@@ -19,10 +18,9 @@ use Rattle.ini.specs.Texts.{Text, is_text}
 use Rattle.ini_edit.specs.Inside.Spans.{IsGap}
 use Rattle.ini_edit.specs.Places.{Follows}
 use Rattle.ini_edit.specs.SourceEditsDelete.{goes_after, left_after}
-use Rattle.ini_edit.specs.SourceLines.{ends_alike}
-use Rattle.ini_edit.specs.SourceLines.{LinePlace, after_line_end, after_line_feed, are_quiet, ends_in_line}
-use Rattle.ini_edit.specs.SourceLines.{is_blank_or_line_end, is_empty, is_one_line_end, line_end_at_end}
-use Rattle.ini_edit.specs.SourceLines.{next_place, quiet_lines_at_end}
+use Rattle.ini_edit.specs.SourceLines.{ends_alike, LinePlace, after_line_end, after_line_feed, are_quiet}
+use Rattle.ini_edit.specs.SourceLines.{ends_in_line, is_blank_or_line_end, is_empty, is_one_line_end}
+use Rattle.ini_edit.specs.SourceLines.{line_end_at_end, next_place, quiet_lines_at_end}
 use Rattle.ini_edit.proofs.AheadLemmas.{more_follows}
 use Rattle.ini_edit.proofs.BlankLineLemmas.{AreBlank, line_last, lines_end, no_lines, own_ends, quiet_all}
 use Rattle.ini_edit.proofs.BlankLineLemmas.{trailing_blank, trailing_ends}

@@ -19,8 +19,7 @@ use Rattle.ini_text.proofs.ReaderLemmas.KeyReaderLemmas.{KeyFront-some}
 use Rattle.ini.specs.Texts.{Text}
 use Rattle.ini_edit.specs.Inside.InPlace.{AreInPlace}
 use Rattle.ini_edit.specs.Inside.Spans.{AreSpans, IsGap, IsPair, IsSpan, IsValuePair, Span, gap, opening}
-use Rattle.ini_edit.specs.Inside.Spans.{pair}
-use Rattle.ini_edit.specs.Inside.Spans.{span_source}
+use Rattle.ini_edit.specs.Inside.Spans.{pair, span_source}
 use Rattle.ini_edit.specs.SourceLines.{LinePlace}
 use Rattle.ini_edit.specs.Sources.{joined}
 use Rattle.ini_edit.proofs.AheadLemmas.{closes_no_line, key_follows, value_follows}

@@ -1,8 +1,7 @@
 -- Pairs of a key taken out of a text in pieces: the sections are those of a whole text, and the document is
 -- the one without these pairs.
 use Rattle.std.proofs.Common.{◌≡◌, ◌≢◌, ◌∙◌, ◌==◌, ◌-◌, ◌+◌, ◌<◌, ◌≤◌, ℕ, Bool, true, false, cond, List, []}
-use Rattle.std.proofs.Common.{◌&&◌, ◌∷◌, ◌++◌, None, Option, Some, ap, arith, if◌then◌else◌, map, refl}
-use Rattle.std.proofs.Common.{subst}
+use Rattle.std.proofs.Common.{◌&&◌, ◌∷◌, ◌++◌, None, Option, Some, ap, arith, if◌then◌else◌, map, refl, subst}
 use Rattle.std.proofs.Common.{suc, sym, zero}
 use Rattle.std.proofs.lemmas.Bool.{cond-false, cond-true, eqb-true, false≢true}
 use Rattle.std.proofs.lemmas.List.{map-append}

@@ -1,7 +1,6 @@
 -- What the calls that take pairs out make, step by step.
 use Rattle.std.proofs.Common.{◌≡◌, ◌∙◌, ◌&&◌, ◌+◌, ◌-◌, ◌<◌, ℕ, Bool, true, false, List, [], ◌∷◌, ◌++◌, None}
-use Rattle.std.proofs.Common.{Option, Some}
-use Rattle.std.proofs.Common.{ap, arith, drop, get_or, length, refl, set, subst, sym, take}
+use Rattle.std.proofs.Common.{Option, Some, ap, arith, drop, get_or, length, refl, set, subst, sym, take}
 use Rattle.std.proofs.lemmas.Bool.{and_parts, cond-false, cond-true}
 use Rattle.std.specs.List.{count_by, remove}
 use Rattle.std.specs.Prelude.{option_and_then}
@@ -10,21 +9,18 @@ use Rattle.ini_text.specs.Grammar.Positions.{last_or}
 use Rattle.ini_text.specs.declared.option.ParseOption.{ParseOption}
 use Rattle.ini.specs.Texts.{Text, is_text}
 use Rattle.ini.proofs.KeepingLemmas.{texts_equal}
-use Rattle.ini_edit.specs.Inside.SourceEnds.{IsPairAt, IsPlaceAt, IsWithout, end_put, end_put_at}
-use Rattle.ini_edit.specs.Inside.SourceEnds.{last_before}
+use Rattle.ini_edit.specs.Inside.SourceEnds.{IsPairAt, IsPlaceAt, IsWithout, end_put, end_put_at, last_before}
 use Rattle.ini_edit.specs.SourceEdits.{with_pairs}
 use Rattle.ini_edit.specs.SourceEditsDelete.{deleted_at, deleted_from, deleted_nth, deleted_times}
 use Rattle.ini_edit.specs.SourceEditsDelete.{empty_comment, follows_value, gap_after, goes_after, left_after}
 use Rattle.ini_edit.specs.SourceEditsDelete.{line_end_after, line_end_left, lines_after, pair_taken_out}
 use Rattle.ini_edit.specs.SourceEditsDelete.{rest_put, to_line_feed, would_be_taken}
-use Rattle.ini_edit.specs.SourcePlaces.{Place, edited_at, exchanged, last_before_pair}
-use Rattle.ini_edit.specs.SourcePlaces.{last_before_section, nth_place, pair_place, section_place}
-use Rattle.ini_edit.specs.SourcePlaces.{text_up_to}
+use Rattle.ini_edit.specs.SourcePlaces.{Place, edited_at, exchanged, last_before_pair, last_before_section}
+use Rattle.ini_edit.specs.SourcePlaces.{nth_place, pair_place, section_place, text_up_to}
 use Rattle.ini_edit.specs.Sources.{PairPiece, Pieces, SectionPiece, sections_text}
 use Rattle.ini_edit.specs.declared.source.pair.ends.NewEnd.{NewEnd}
 use Rattle.ini_edit.proofs.DeletedSourceLemmas.{IsMapped, mapped, none_above, nth_none, pair_within}
-use Rattle.ini_edit.proofs.DeletedSourceLemmas.{placed_in}
-use Rattle.ini_edit.proofs.DeletedSourceLemmas.{times_there, unmapped}
+use Rattle.ini_edit.proofs.DeletedSourceLemmas.{placed_in, times_there, unmapped}
 use Rattle.ini_edit.proofs.SourcePlaceLemmas.{place_drop_more, place_drop_put, place_remove, place_set}
 use Rattle.ini_edit.proofs.SourcePlaceLemmas.{place_read, place_take, place_take_put, place_within}
 

@@ -1,7 +1,6 @@
 -- The indented key that the text's end cuts short, among elements that give nothing: the last of them.
-use Rattle.std.proofs.Common.{◌≡◌, ◌∙◌, ◌&&◌, ◌||◌, ◌==◌, ℕ, Bool, true, false, not, List, [], ◌∷◌}
-use Rattle.std.proofs.Common.{◌++◌, ap, append_assoc, append-nil, eqb-true, inl, inr, refl}
-use Rattle.std.proofs.Common.{subst, sym}
+use Rattle.std.proofs.Common.{◌≡◌, ◌∙◌, ◌&&◌, ◌||◌, ◌==◌, ℕ, Bool, true, false, not, List, [], ◌∷◌, ◌++◌, ap}
+use Rattle.std.proofs.Common.{append_assoc, append-nil, eqb-true, inl, inr, refl, subst, sym}
 use Rattle.std.specs.Prelude.{◌⊎◌, ⊤}
 use Rattle.std.proofs.lemmas.Bool.{and_from, and_parts, both_ways, cases_Bool, cond-false, cond-true}
 use Rattle.std.proofs.lemmas.Bool.{false≢true, false_from_ne_true, not-true, or_from, or_left, or_parts}

@@ -24,8 +24,7 @@ use Rattle.ini_edit.proofs.DroppedKeyLemmas.{AreKeyless}
 use Rattle.ini_edit.proofs.EndingLemmas.{no_feed_by}
 use Rattle.ini_edit.proofs.GapLemmas.{empty_front, gap_join}
 use Rattle.ini_edit.proofs.GapPartLemmas.{all_last, no_blank_end}
-use Rattle.ini_edit.proofs.QuietLemmas.{Quiet, Tail, as_quiet, free, note_before, note_element}
-use Rattle.ini_edit.proofs.QuietLemmas.{note_within}
+use Rattle.ini_edit.proofs.QuietLemmas.{Quiet, Tail, as_quiet, free, note_before, note_element, note_within}
 use Rattle.ini_edit.proofs.SectionTakenLemmas.{IsFeed}
 
 abbrev is_other : ℕ → Bool

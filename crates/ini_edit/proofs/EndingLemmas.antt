@@ -7,14 +7,12 @@ use Rattle.std.specs.Char.{is_digit}
 use Rattle.std.specs.List.{list_all}
 use Rattle.ini_text.specs.declared.option.ParseOption.{ParseOption}
 use Rattle.ini_text.specs.Grammar.CharacterKinds.{backslash, letter_x, line_feed, plus, is_blank}
-use Rattle.ini_text.specs.Grammar.CharacterKinds.{is_inline_white}
-use Rattle.ini_text.specs.Grammar.CharacterKinds.{is_line_feed, is_quote_mark, BeginsWith}
+use Rattle.ini_text.specs.Grammar.CharacterKinds.{is_inline_white, is_line_feed, is_quote_mark, BeginsWith}
 use Rattle.ini_text.specs.Grammar.Positions.{last_or, is_column_one}
 use Rattle.ini_text.specs.Grammar.EscapeSequences.{EscapeSequence, spelled}
 use Rattle.ini_text.specs.Grammar.Strings.{Ends, Row, Str, is_endpoint}
 use Rattle.ini_text.specs.Grammar.Lines.{LineText, Quoted}
-use Rattle.ini_text.specs.Options.Backslashes.{Escape, Kept, Raw, begins_escape, is_special}
-use Rattle.ini_text.specs.Options.Backslashes.{reads_escapes}
+use Rattle.ini_text.specs.Options.Backslashes.{Escape, Kept, Raw, begins_escape, is_special, reads_escapes}
 use Rattle.ini_text.specs.Options.ReadOptions.{backslash_of}
 use Rattle.ini_edit.specs.Endings.{Ending, next_ending, ending_from, ending}
 

@@ -1,7 +1,6 @@
 -- The walk to the first pair of a key in the first section of a name.
 use Rattle.std.proofs.Common.{◌≡◌, ◌∙◌, Bool, true, false, cond, List, [], ◌∷◌, ◌++◌, fold, ap, sym, subst}
-use Rattle.std.proofs.Common.{refl, subst₂}
-use Rattle.std.proofs.Common.{Option, None, Some, append_assoc, append-nil, chars, MatchOption}
+use Rattle.std.proofs.Common.{refl, subst₂, Option, None, Some, append_assoc, append-nil, chars, MatchOption}
 use Rattle.std.specs.Prelude.{option_and_then}
 use Rattle.std.proofs.lemmas.Bool.{cond-true, cond-false}
 use Rattle.std.proofs.lemmas.Grind.{fold-append}
@@ -33,8 +32,7 @@ use Rattle.ini_edit.specs.Places.{pair_of}
 use Rattle.ini_edit.specs.Targets.{Lacks}
 use Rattle.ini_edit.specs.FirstPairs.{IsFirstPair, LacksPair, LacksSection, stretches_of}
 use Rattle.ini_edit.specs.Inside.Walks.{EndsSection, IsPastLast, IsReading, OpensFirst, OpensNone}
-use Rattle.ini_edit.specs.Inside.Walks.{PassesPairs, ReachesEnd, ReachesPair}
-use Rattle.ini_edit.specs.Inside.Walks.{ReadsOn, StandsWithin, Steps}
+use Rattle.ini_edit.specs.Inside.Walks.{PassesPairs, ReachesEnd, ReachesPair, ReadsOn, StandsWithin, Steps}
 use Rattle.ini_edit.specs.declared.find.FoundPair.{FoundPair}
 use Rattle.ini_edit.proofs.DocumentLemmas.{pair_items-append, section_made, sections_after}
 use Rattle.ini_edit.proofs.WalkLemmas.{Walked, stands_within, step_reads, stays, told}

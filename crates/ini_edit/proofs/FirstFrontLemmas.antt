@@ -20,8 +20,7 @@ use Rattle.ini.specs.Texts.{Text}
 use Rattle.ini_edit.specs.Inside.Spans.{IsGap}
 use Rattle.ini_edit.specs.SourceLines.{after_comments, after_line, after_line_end, after_line_feed}
 use Rattle.ini_edit.specs.SourceLines.{are_comments, is_empty, is_in_comment}
-use Rattle.ini_edit.proofs.CommentRowLemmas.{IsNewLine, comments_ended}
-use Rattle.ini_edit.proofs.CommentRowLemmas.{comments_whole}
+use Rattle.ini_edit.proofs.CommentRowLemmas.{IsNewLine, comments_ended, comments_whole}
 use Rattle.ini_edit.proofs.GapCutLemmas.{line_past, line_there}
 use Rattle.ini_edit.proofs.GapLemmas.{CommentPlace, empty_front, gap_join, gap_more, pieces_place}
 use Rattle.ini_edit.proofs.GapPartLemmas.{gap_nothing}

@@ -1,7 +1,6 @@
 -- The first of a list that fits: found on a walk, changed, and seen as an entry.
 use Rattle.std.proofs.Common.{◌≡◌, ◌∙◌, ◌<◌, ◌≤◌, ◌+◌, ℕ, Bool, true, false, cond, List, [], ◌∷◌, ◌++◌}
-use Rattle.std.proofs.Common.{length, map}
-use Rattle.std.proofs.Common.{None, Some, get_or, drop, take, ap, sym, refl, subst, append_assoc}
+use Rattle.std.proofs.Common.{length, map, None, Some, get_or, drop, take, ap, sym, refl, subst, append_assoc}
 use Rattle.std.proofs.Common.{arith, suc}
 use Rattle.std.proofs.lemmas.Bool.{cond-true, cond-false}
 use Rattle.std.proofs.lemmas.List.{drop_all, drop_more, get_or_default, set_split, take_more}

@@ -3,8 +3,7 @@
 use Rattle.std.proofs.Common.{◌≡◌, ◌∙◌, ◌⊎◌, ◌==◌, ◌&&◌, ◌||◌, ℕ, Bool, true, false, cond, not, [], ◌∷◌}
 use Rattle.std.proofs.Common.{◌++◌, Option, None, Some, ap, append_assoc, inl, inr, refl, subst, sym}
 use Rattle.std.proofs.lemmas.Bool.{and_cases, and_parts, both_ways, cond-false, cond-true, cond_both}
-use Rattle.std.proofs.lemmas.Bool.{false≢true}
-use Rattle.std.proofs.lemmas.Bool.{not-false, not-true, or_cases, or_left, or_parts, or_right}
+use Rattle.std.proofs.lemmas.Bool.{false≢true, not-false, not-true, or_cases, or_left, or_parts, or_right}
 use Rattle.std.specs.List.{list_all}
 use Rattle.std.specs.Option.{option_or}
 use Rattle.ini_text.specs.Grammar.CharacterKinds.{BeginsWith, BeginsWithNo, carriage_return, is_blank}
@@ -25,17 +24,14 @@ use Rattle.ini.specs.Texts.{Text}
 use Rattle.ini_edit.specs.Inside.Spans.{IsGap}
 use Rattle.ini_edit.specs.SourceLines.{is_blank_or_line_end}
 use Rattle.ini_edit.specs.SourceEditsAdd.{GapPlace, after_header, after_header_comments, after_licence}
-use Rattle.ini_edit.specs.SourceEditsAdd.{at_front}
-use Rattle.ini_edit.specs.SourceEditsAdd.{first_place, freed, past_blank_lines}
+use Rattle.ini_edit.specs.SourceEditsAdd.{at_front, first_place, freed, past_blank_lines}
 use Rattle.ini_edit.specs.SourceLines.{after_blank_lines, after_comments, after_line, after_line_end}
-use Rattle.ini_edit.specs.SourceLines.{blanks_at_end, has_lone_return, is_empty}
-use Rattle.ini_edit.specs.SourceLines.{line_end_at_end}
+use Rattle.ini_edit.specs.SourceLines.{blanks_at_end, has_lone_return, is_empty, line_end_at_end}
 use Rattle.ini_edit.proofs.BlankLineLemmas.{AreBlank}
 use Rattle.ini_edit.proofs.BlankValueLemmas.{EndBefore, are_blank}
 use Rattle.ini_edit.proofs.DroppedKeyLemmas.{blank_no_end}
 use Rattle.ini_edit.proofs.GapCutLemmas.{AreBlanks, AreParts, IsCut, blank_cut, blanks_there, comment_cut}
-use Rattle.ini_edit.proofs.GapCutLemmas.{cut_gap, cut_on}
-use Rattle.ini_edit.proofs.GapCutLemmas.{cut_rest_gap, end_cut, line_cut}
+use Rattle.ini_edit.proofs.GapCutLemmas.{cut_gap, cut_on, cut_rest_gap, end_cut, line_cut}
 use Rattle.ini_edit.proofs.GapLemmas.{gap_join}
 use Rattle.ini_edit.proofs.LineFrontLemmas.{EndsComments, apart_both, comments_of, end_ends, ends_some}
 use Rattle.ini_edit.proofs.LineFrontLemmas.{kinds, line_of, lines_ended, none_left}

@@ -1,6 +1,5 @@
 -- What a gap has before the place of a section's first pair, with its line ended, stands before any text.
-use Rattle.std.proofs.Common.{◌≡◌, ◌∙◌, ◌⊎◌, ◌&&◌, ◌||◌, ℕ, Bool, true, false, cond, not, [], ◌∷◌, ◌++◌}
-use Rattle.std.proofs.Common.{None}
+use Rattle.std.proofs.Common.{◌≡◌, ◌∙◌, ◌⊎◌, ◌&&◌, ◌||◌, ℕ, Bool, true, false, cond, not, [], ◌∷◌, ◌++◌, None}
 use Rattle.std.proofs.Common.{Option, Some, ap, append_assoc, append-nil, inl, inr, refl, subst, sym}
 use Rattle.std.proofs.lemmas.Bool.{and_from, both_ways, cond-false, cond-true, false≢true, not-false}
 use Rattle.std.proofs.lemmas.Bool.{or_left, or_parts}
@@ -24,8 +23,7 @@ use Rattle.ini_edit.specs.SourceLines.{after_blank_lines, after_comments, after_
 use Rattle.ini_edit.specs.SourceLines.{blanks_at_end, has_lone_return, is_empty, is_in_comment}
 use Rattle.ini_edit.specs.SourceLines.{line_end_at_end}
 use Rattle.ini_edit.proofs.CommentRowLemmas.{IsNewLine, comments_gap, comments_whole}
-use Rattle.ini_edit.proofs.FirstFrontLemmas.{comment_front, comments_glued, end_front}
-use Rattle.ini_edit.proofs.FirstFrontLemmas.{line_any, line_some}
+use Rattle.ini_edit.proofs.FirstFrontLemmas.{comment_front, comments_glued, end_front, line_any, line_some}
 use Rattle.ini_edit.proofs.FirstPlaceLemmas.{StandsIn, header_feed, header_line}
 use Rattle.ini_edit.proofs.GapCutLemmas.{blanks_there}
 use Rattle.ini_edit.proofs.GapLemmas.{EndsThere, gap_join, white_gap}

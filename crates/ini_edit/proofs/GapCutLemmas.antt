@@ -1,11 +1,9 @@
 -- Gaps cut where the words for lines cut them: after a header's own line, after a line end, after comments,
 -- and after blank lines. Each is an end of an element.
-use Rattle.std.proofs.Common.{◌≡◌, ◌∙◌, ◌≤◌, ◌⊎◌, ◌==◌, ◌||◌, ℕ, Bool, true, false, cond, not, List, []}
-use Rattle.std.proofs.Common.{◌∷◌, ◌++◌}
-use Rattle.std.proofs.Common.{ap, append_assoc, append-nil, arith, eqb-true, inl, inr, length, refl, subst}
-use Rattle.std.proofs.Common.{sym}
-use Rattle.std.proofs.lemmas.Bool.{and_from, and_parts, both_ways, cond-false, cond-true, false≢true}
-use Rattle.std.proofs.lemmas.Bool.{or_left}
+use Rattle.std.proofs.Common.{◌≡◌, ◌∙◌, ◌≤◌, ◌⊎◌, ◌==◌, ◌||◌, ℕ, Bool, true, false, cond, not, List, [], ◌∷◌}
+use Rattle.std.proofs.Common.{◌++◌, ap, append_assoc, append-nil, arith, eqb-true, inl, inr, length, refl}
+use Rattle.std.proofs.Common.{subst, sym}
+use Rattle.std.proofs.lemmas.Bool.{and_from, and_parts, both_ways, cond-false, cond-true, false≢true, or_left}
 use Rattle.std.proofs.lemmas.Bool.{false_from_ne_true, not-true, not_from_false, or_from, or_parts, or_right}
 use Rattle.std.specs.List.{list_all}
 use Rattle.ini_text.specs.Grammar.CharacterKinds.{BeginsWith, BeginsWithNo, carriage_return, is_blank}
@@ -26,9 +24,8 @@ use Rattle.ini_text.proofs.LawLemmas.PieceLemmas.{pieces_text-append}
 use Rattle.ini_text.proofs.StringLemmas.FrontLemmas.{front_is}
 use Rattle.ini.specs.Texts.{Text}
 use Rattle.ini_edit.specs.Inside.Spans.{IsGap}
-use Rattle.ini_edit.specs.SourceLines.{is_blank_or_line_end}
-use Rattle.ini_edit.specs.SourceLines.{after_blank_lines, after_comments, after_line, after_line_end}
-use Rattle.ini_edit.specs.SourceLines.{after_line_feed, blanks_at_end}
+use Rattle.ini_edit.specs.SourceLines.{is_blank_or_line_end, after_blank_lines, after_comments, after_line}
+use Rattle.ini_edit.specs.SourceLines.{after_line_end, after_line_feed, blanks_at_end}
 use Rattle.ini_edit.proofs.CommentLemmas.{marked_comment}
 use Rattle.ini_edit.proofs.GapLemmas.{empty_front, line_end_element}
 use Rattle.ini_edit.proofs.QuietLemmas.{Free, IsComment, NoteFront, Quiet, Tail, as_quiet, mark_no_end}

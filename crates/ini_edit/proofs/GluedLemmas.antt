@@ -1,7 +1,6 @@
 -- Lines of a value with what closes them, before a line end or the text's end.
 use Rattle.std.proofs.Common.{◌≡◌, ◌≢◌, ℕ, Bool, true, false, ◌&&◌, eqb, cond, not, List, [], ◌∷◌, ◌++◌}
-use Rattle.std.proofs.Common.{length}
-use Rattle.std.proofs.Common.{refl, sym, ap, ◌∙◌, subst, append_assoc, append-nil, inl, inr}
+use Rattle.std.proofs.Common.{length, refl, sym, ap, ◌∙◌, subst, append_assoc, append-nil, inl, inr}
 use Rattle.std.specs.Prelude.{◌⊎◌}
 use Rattle.std.proofs.lemmas.Bool.{cases_Bool, cond-true, cond-false, eqb-false, both_ways}
 use Rattle.std.proofs.lemmas.Bool.{and_parts, and_from}
@@ -12,8 +11,7 @@ use Rattle.ini_text.specs.declared.option.ParseOption.{ParseOption}
 use Rattle.ini_text.specs.Grammar.CharacterKinds.{backslash, begins, is_blank, letter_x, line_feed, space}
 use Rattle.ini_text.specs.Grammar.CharacterKinds.{is_inline_white, is_line_feed, is_quote_mark}
 use Rattle.ini_text.specs.Grammar.CharacterKinds.{is_comment_mark, is_line_end, BeginsWithNo}
-use Rattle.ini_text.specs.Grammar.WhiteSpace.{Lead, drop_line_feeds}
-use Rattle.ini_text.specs.Grammar.WhiteSpace.{without_outer_line_feeds}
+use Rattle.ini_text.specs.Grammar.WhiteSpace.{Lead, drop_line_feeds, without_outer_line_feeds}
 use Rattle.ini_text.specs.Grammar.EscapeSequences.{EscapeSequence}
 use Rattle.ini_text.specs.Grammar.Strings.{Closes, Ends, Row, Str, is_before_note, is_endpoint, noted}
 use Rattle.ini_text.specs.Grammar.Strings.{plain_ends}

@@ -1,8 +1,7 @@
 -- Headers: what begins with one; one before a line end; and one under another name, read where the old was.
 use Rattle.std.proofs.Common.{◌≡◌, ◌≢◌, ◌∙◌, ◌==◌, ◌&&◌, ◌||◌, ℕ, Bool, true, false, [], ◌∷◌, ◌++◌, ap}
 use Rattle.std.proofs.Common.{append_assoc, append-nil, refl, subst, sym}
-use Rattle.std.proofs.lemmas.Bool.{and_from, and_left, and_parts, cond-false, cond-true}
-use Rattle.std.proofs.lemmas.Bool.{false≢true}
+use Rattle.std.proofs.lemmas.Bool.{and_from, and_left, and_parts, cond-false, cond-true, false≢true}
 use Rattle.std.specs.List.{list_all}
 use Rattle.ini_text.specs.Options.Backslashes.{begins_escape}
 use Rattle.ini_text.specs.Options.ReadOptions.{backslash_of}
@@ -10,9 +9,8 @@ use Rattle.ini_text.specs.declared.option.ParseOption.{ParseOption}
 use Rattle.ini_text.specs.declared.write.policy.EscapePolicy.{EscapePolicy}
 use Rattle.ini_text.specs.Escaping.EscapedTexts.{escaped}
 use Rattle.ini_text.specs.Grammar.CharacterKinds.{BeginsWith, begins, carriage_return, close_bracket}
-use Rattle.ini_text.specs.Grammar.CharacterKinds.{is_blank}
-use Rattle.ini_text.specs.Grammar.CharacterKinds.{is_comment_mark, is_inline_white, is_line_end, line_feed}
-use Rattle.ini_text.specs.Grammar.CharacterKinds.{open_bracket}
+use Rattle.ini_text.specs.Grammar.CharacterKinds.{is_blank, is_comment_mark, is_inline_white, is_line_end}
+use Rattle.ini_text.specs.Grammar.CharacterKinds.{line_feed, open_bracket}
 use Rattle.ini_text.specs.Grammar.Elements.{Header, Element}
 use Rattle.ini_text.specs.Grammar.Positions.{last_or}
 use Rattle.ini_text.specs.Grammar.Strings.{Closes, Ends, Row, Str, bracketed_name_ends, is_before_note}
@@ -29,8 +27,7 @@ use Rattle.ini_edit.specs.Places.{Follows}
 use Rattle.ini_edit.specs.Sections.{header_of}
 use Rattle.ini_edit.specs.SourceLines.{blanks_at_end}
 use Rattle.ini_edit.proofs.GluedLemmas.{str_row}
-use Rattle.ini_edit.proofs.PadLemmas.{EndsInBlank, blank_at_end, no_note_follows, white_inside}
-use Rattle.ini_edit.proofs.PadLemmas.{white_no_note}
+use Rattle.ini_edit.proofs.PadLemmas.{EndsInBlank, blank_at_end, no_note_follows, white_inside, white_no_note}
 use Rattle.ini_edit.proofs.QuietLemmas.{IsHeader, line_end_no_mark}
 use Rattle.ini_edit.proofs.ValueLemmas.{closes_line_end}
 

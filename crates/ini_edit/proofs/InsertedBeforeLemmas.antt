@@ -19,8 +19,7 @@ use Rattle.ini_edit.specs.Inside.SourceEnds.{made_pair, style_at}
 use Rattle.ini_edit.specs.Inside.Spans.{AreSections}
 use Rattle.ini_edit.specs.NewLines.{line_end_of}
 use Rattle.ini_edit.specs.SourceEditsAdd.{Maker, pair_put_before, would_go_on}
-use Rattle.ini_edit.specs.SourceEditsAdded.{RefusesToInsert, inserted_before, made, new_line_end}
-use Rattle.ini_edit.specs.SourceEditsAdded.{style_after}
+use Rattle.ini_edit.specs.SourceEditsAdded.{RefusesToInsert, inserted_before, made, new_line_end, style_after}
 use Rattle.ini_edit.specs.SourceLines.{comments_at_end, is_empty}
 use Rattle.ini_edit.specs.SourcePlaces.{PairPlace, Place, gap_of, gap_put, is_nil, last_before_gap}
 use Rattle.ini_edit.specs.SourcePlaces.{last_before_section, pair_place, section_exchanged}

@@ -1,8 +1,7 @@
 -- The line end with which a text ends, by its last characters; and the first line end on the way to it.
-use Rattle.std.proofs.Common.{◌≡◌, ◌∙◌, ◌&&◌, ℕ, Bool, true, false, cond, eqb, eqb-true, [], ◌∷◌}
-use Rattle.std.proofs.Common.{◌++◌, Option, None, Some, ap, append_assoc, append-nil, arith, is_some, refl}
-use Rattle.std.proofs.Common.{unwrap_or}
-use Rattle.std.proofs.Common.{subst, sym}
+use Rattle.std.proofs.Common.{◌≡◌, ◌∙◌, ◌&&◌, ℕ, Bool, true, false, cond, eqb, eqb-true, [], ◌∷◌, ◌++◌}
+use Rattle.std.proofs.Common.{Option, None, Some, ap, append_assoc, append-nil, arith, is_some, refl}
+use Rattle.std.proofs.Common.{unwrap_or, subst, sym}
 use Rattle.std.proofs.lemmas.Bool.{and_from, and_left, and_right, cond-false, cond-true, cond_both}
 use Rattle.std.proofs.lemmas.Bool.{false≢true, or_from}
 use Rattle.ini.specs.Texts.{Text}
@@ -14,8 +13,7 @@ use Rattle.ini_text.specs.declared.write.option.LineSeparator.{LineSeparator}
 use Rattle.ini_text.specs.declared.write.option.LineSeparator.TheVariants.{CRLF, SystemDefault}
 use Rattle.ini_edit.specs.Inside.SourceSearches.{IsSearched, first_line_end}
 use Rattle.ini_edit.specs.NewLines.{line_end_of}
-use Rattle.ini_edit.specs.SourceLines.{after_line_feed, is_empty, is_one_line_end}
-use Rattle.ini_edit.specs.SourceLines.{line_end_at_end}
+use Rattle.ini_edit.specs.SourceLines.{after_line_feed, is_empty, is_one_line_end, line_end_at_end}
 use Rattle.ini_edit.specs.declared.source.lines.LineEndSearch.{LineEndSearch}
 
 -- two characters that aren't CR LF are no line end, and no three are

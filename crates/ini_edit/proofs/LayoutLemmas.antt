@@ -17,8 +17,7 @@ use Rattle.ini_edit.specs.Inside.SourceLayouts.{EndsInRest}
 use Rattle.ini_edit.specs.SourceLayout.{Rules, laid_gap, laid_pair, laid_pairs, laid_section, laid_sections}
 use Rattle.ini_edit.specs.SourceEditsSections.{rest_before_header}
 use Rattle.ini_edit.specs.SourceLayout.{above_next, column_after, column_at, first_lines, laid_lines}
-use Rattle.ini_edit.specs.SourceLayout.{line_ends, lines_of, one_more, pad_for, style_of_key}
-use Rattle.ini_edit.specs.SourceLayout.{white_before}
+use Rattle.ini_edit.specs.SourceLayout.{line_ends, lines_of, one_more, pad_for, style_of_key, white_before}
 use Rattle.ini_edit.specs.SourceLines.{comments_at_end, indentation_at_end}
 use Rattle.ini_edit.specs.SourcePlaces.{gap_of, is_nil, last_gap}
 use Rattle.ini_edit.specs.SourceWritten.{Style}

@@ -1,12 +1,10 @@
 -- What follows a pair in one line cut behind its line end, behind which a note may stand.
 use Rattle.std.proofs.Common.{◌≡◌, ◌∙◌, ◌&&◌, ◌==◌, ℕ, Bool, true, false, not, List, [], ◌∷◌, ◌++◌, ap}
 use Rattle.std.proofs.Common.{append_assoc, append-nil, arith, eqb-true, if◌then◌else◌, inl, inr, length}
-use Rattle.std.proofs.Common.{refl}
-use Rattle.std.proofs.Common.{subst, sym}
+use Rattle.std.proofs.Common.{refl, subst, sym}
 use Rattle.std.proofs.lemmas.Bool.{and_from, and_left, and_parts, and_right, both_ways, cases_Bool}
-use Rattle.std.proofs.lemmas.Bool.{cond-false}
-use Rattle.std.proofs.lemmas.Bool.{cond-true, false_from_ne_true, false≢true, not-true, or_cases, or_from}
-use Rattle.std.proofs.lemmas.Bool.{or_left}
+use Rattle.std.proofs.lemmas.Bool.{cond-false, cond-true, false_from_ne_true, false≢true, not-true, or_cases}
+use Rattle.std.proofs.lemmas.Bool.{or_from, or_left}
 use Rattle.std.specs.List.{list_all}
 use Rattle.std.specs.Prelude.{is_some}
 use Rattle.ini_text.specs.Grammar.CharacterKinds.{BeginsWith, BeginsWithNo, begins, carriage_return, hash}
@@ -15,8 +13,7 @@ use Rattle.ini_text.specs.Grammar.CharacterKinds.{line_feed, semicolon}
 use Rattle.ini_text.specs.Grammar.Elements.{Element, Given, may_have_note}
 use Rattle.ini_text.specs.Grammar.Lines.{Note}
 use Rattle.ini_text.specs.Grammar.Pieces.{ArePieces, Piece, pieces_items, pieces_text}
-use Rattle.ini_text.specs.Grammar.Places.{Stretches, TrailingLines, pair_source, separator_text}
-use Rattle.ini_text.specs.Grammar.Places.{value_source}
+use Rattle.ini_text.specs.Grammar.Places.{Stretches, TrailingLines, pair_source, separator_text, value_source}
 use Rattle.ini_text.specs.Grammar.Positions.{last_or}
 use Rattle.ini_text.specs.Grammar.Strings.{Closes, is_endpoint, key_ends, noted_key_ends, plain_ends}
 use Rattle.ini_text.specs.Grammar.Values.{LineEnd}

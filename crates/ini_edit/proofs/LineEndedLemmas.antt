@@ -15,12 +15,10 @@ use Rattle.ini.specs.Texts.{Text}
 use Rattle.ini_edit.specs.Places.{Follows}
 use Rattle.ini_edit.specs.SourceEditsDelete.{line_end_after, lines_after, own_lines}
 use Rattle.ini_edit.specs.SourceLines.{LinePlace, are_quiet, ends_in_line, is_empty, is_line, is_line_from}
-use Rattle.ini_edit.specs.SourceLines.{next_place, quiet_lines_at_end, quiet_lines_from}
-use Rattle.ini_edit.specs.SourceLines.{stays_quiet}
+use Rattle.ini_edit.specs.SourceLines.{next_place, quiet_lines_at_end, quiet_lines_from, stays_quiet}
 use Rattle.ini_edit.specs.Sources.{PairPiece, is_multiline}
 use Rattle.ini_edit.proofs.PairEndLemmas.{lines_on, no_line_end_on, own_on}
-use Rattle.ini_edit.proofs.QuietWalkLemmas.{feeds_left, feeds_right, passed_comment, passed_last}
-use Rattle.ini_edit.proofs.QuietWalkLemmas.{passed_line}
+use Rattle.ini_edit.proofs.QuietWalkLemmas.{feeds_left, feeds_right, passed_comment, passed_last, passed_line}
 use Rattle.ini_edit.proofs.QuietWalkLemmas.{passed_last_comment, past_end}
 use Rattle.ini_edit.proofs.SourceLineLemmas.{front_of_none}
 use Rattle.ini_edit.proofs.TrailingCutLemmas.{line_end_moved}

@@ -10,10 +10,8 @@ use Rattle.ini_text.specs.Grammar.Positions.{last_or}
 use Rattle.ini_text.specs.Parsing.Fronts.{front_of}
 use Rattle.ini_text.proofs.LawLemmas.PieceLemmas.{last_or-append}
 use Rattle.ini.specs.Texts.{Text}
-use Rattle.ini_edit.specs.SourceLines.{is_blank_or_line_end}
-use Rattle.ini_edit.specs.SourceLines.{after_comments, after_line}
-use Rattle.ini_edit.specs.SourceLines.{after_line_feed, blanks_at_end, is_empty, is_in_comment}
-use Rattle.ini_edit.specs.SourceLines.{line_end_at_end}
+use Rattle.ini_edit.specs.SourceLines.{is_blank_or_line_end, after_comments, after_line, after_line_feed}
+use Rattle.ini_edit.specs.SourceLines.{blanks_at_end, is_empty, is_in_comment, line_end_at_end}
 use Rattle.ini_edit.proofs.DeletedLinesLemmas.{IsLineEnd, end_is, end_last}
 use Rattle.ini_edit.proofs.GapCutLemmas.{blanks_later}
 use Rattle.ini_edit.proofs.SourceLineLemmas.{line_end_at_end-rest}

@@ -6,11 +6,8 @@ use Rattle.std.specs.List.{list_all}
 use Rattle.ini_text.specs.declared.option.ParseOption.{ParseOption}
 use Rattle.ini_text.specs.declared.write.option.LineSeparator.{LineSeparator}
 use Rattle.ini_text.specs.declared.write.option.LineSeparator.TheVariants.{SystemDefault, CR, CRLF}
-use Rattle.ini_text.specs.Grammar.CharacterKinds.{line_feed, is_blank}
-use Rattle.ini_text.specs.Grammar.CharacterKinds.{is_line_feed, BeginsWith}
-use Rattle.ini_text.specs.Grammar.CharacterKinds.{is_line_end}
-use Rattle.ini_text.specs.Grammar.WhiteSpace.{Lead}
-use Rattle.ini_text.specs.Grammar.WhiteSpace.{without_outer_line_feeds}
+use Rattle.ini_text.specs.Grammar.CharacterKinds.{line_feed, is_blank, is_line_feed, BeginsWith, is_line_end}
+use Rattle.ini_text.specs.Grammar.WhiteSpace.{Lead, without_outer_line_feeds}
 use Rattle.ini_text.specs.Grammar.Strings.{Closes, plain_ends}
 use Rattle.ini_text.specs.Grammar.Lines.{Line}
 use Rattle.ini_text.specs.Grammar.Values.{CommentLine, GoesOn, LineEnd, MoreLines, Value}
@@ -23,8 +20,7 @@ use Rattle.ini_edit.specs.Places.{Follows}
 use Rattle.ini_edit.proofs.CommentedLineLemmas.{comment_begins, comment_longer}
 use Rattle.ini_edit.proofs.EndingLemmas.{ending-lead, ending-white}
 use Rattle.ini_edit.proofs.InsertedLemmas.{line_end-closes}
-use Rattle.ini_edit.proofs.GluedLemmas.{closing_after, closing_alone, closing_end, closing_line}
-use Rattle.ini_edit.proofs.GluedLemmas.{closing_past}
+use Rattle.ini_edit.proofs.GluedLemmas.{closing_after, closing_alone, closing_end, closing_line, closing_past}
 use Rattle.ini_edit.proofs.GluedLemmas.{closing_within, feeds_after, goes_on_glued, lead_glued, line_glued}
 
 none_begins : (w z : List ℕ) → BeginsWith is_blank w → (w ++ z) ≢ []

@@ -1,16 +1,13 @@
 -- A key alone that is set to a value: a separator and the value after it, and what stood after the key.
-use Rattle.std.proofs.Common.{◌≡◌, ◌≢◌, ◌∙◌, ◌⊎◌, ◌==◌, ◌&&◌, ◌||◌, ◌≤◌, ℕ, Bool, true, false, cond, List}
-use Rattle.std.proofs.Common.{[]}
-use Rattle.std.proofs.Common.{◌∷◌, ◌++◌, ap, append-nil, append_assoc, arith, eqb-true, inl, inr, length}
-use Rattle.std.proofs.Common.{not, if◌then◌else◌}
-use Rattle.std.proofs.Common.{refl, subst, subst₂, sym}
+use Rattle.std.proofs.Common.{◌≡◌, ◌≢◌, ◌∙◌, ◌⊎◌, ◌==◌, ◌&&◌, ◌||◌, ◌≤◌, ℕ, Bool, true, false, cond, List, []}
+use Rattle.std.proofs.Common.{◌∷◌, ◌++◌, ap, append-nil, append_assoc, arith, eqb-true, inl, inr, length, not}
+use Rattle.std.proofs.Common.{if◌then◌else◌, refl, subst, subst₂, sym}
 use Rattle.std.proofs.lemmas.Bool.{and_parts, and_from, both_ways, cond-false, cond-true, false≢true}
 use Rattle.std.proofs.lemmas.Bool.{false_from_ne_true, not-true, or_cases, or_parts}
 use Rattle.std.specs.List.{list_all}
 use Rattle.ini_text.specs.Grammar.CharacterKinds.{BeginsWith, BeginsWithNo, backslash, carriage_return}
-use Rattle.ini_text.specs.Grammar.CharacterKinds.{equals}
-use Rattle.ini_text.specs.Grammar.CharacterKinds.{is_blank, is_comment_mark, is_line_end, is_line_feed}
-use Rattle.ini_text.specs.Grammar.CharacterKinds.{line_feed, open_bracket, semicolon, space}
+use Rattle.ini_text.specs.Grammar.CharacterKinds.{equals, is_blank, is_comment_mark, is_line_end}
+use Rattle.ini_text.specs.Grammar.CharacterKinds.{is_line_feed, line_feed, open_bracket, semicolon, space}
 use Rattle.ini_text.specs.Grammar.Elements.{Element}
 use Rattle.ini_text.specs.Grammar.Keys.{KeyFront}
 use Rattle.ini_text.specs.Grammar.Lines.{LineTail, Note}

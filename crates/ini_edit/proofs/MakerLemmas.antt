@@ -23,8 +23,7 @@ use Rattle.ini_edit.proofs.BlankLineLemmas.{AreBlank}
 use Rattle.ini_edit.proofs.CommentRowLemmas.{comments_column, comments_gap}
 use Rattle.ini_edit.proofs.DeletedPairLemmas.{tail_last}
 use Rattle.ini_edit.proofs.GapLemmas.{gap_join}
-use Rattle.ini_edit.proofs.NewPairLemmas.{IsPlainStyle, IsReadKey, IsSourceFor, new_pair_follows}
-use Rattle.ini_edit.proofs.NewPairLemmas.{new_pair_is}
+use Rattle.ini_edit.proofs.NewPairLemmas.{IsPlainStyle, IsReadKey, IsSourceFor, new_pair_follows, new_pair_is}
 use Rattle.ini_edit.proofs.SourceAddLemmas.{IsNewEnd, line_ends_gap}
 use Rattle.ini_edit.proofs.SourceSetLemmas.{before_tail}
 

@@ -1,9 +1,8 @@
 -- The line end of a new pair after a multiline value: where the value's own lines end with CR alone, it is
 -- that, so that a comment behind them stays behind CR.
-use Rattle.std.proofs.Common.{◌≡◌, ◌≢◌, ◌∙◌, ◌==◌, ◌&&◌, ℕ, Bool, true, false, not, [], ◌∷◌, ◌++◌}
-use Rattle.std.proofs.Common.{ap, append-nil, arith, eqb-true, if◌then◌else◌, inl, inr, length}
-use Rattle.std.proofs.Common.{length-append, refl}
-use Rattle.std.proofs.Common.{subst, sym}
+use Rattle.std.proofs.Common.{◌≡◌, ◌≢◌, ◌∙◌, ◌==◌, ◌&&◌, ℕ, Bool, true, false, not, [], ◌∷◌, ◌++◌, ap}
+use Rattle.std.proofs.Common.{append-nil, arith, eqb-true, if◌then◌else◌, inl, inr, length, length-append}
+use Rattle.std.proofs.Common.{refl, subst, sym}
 use Rattle.std.proofs.lemmas.Bool.{and_cases, and_parts, both_ways, cases_Bool, cond-false, cond-true}
 use Rattle.std.proofs.lemmas.Bool.{false≢true, not-true, or_cases, or_left, or_parts}
 use Rattle.ini_text.specs.Grammar.CharacterKinds.{BeginsWith, BeginsWithNo, carriage_return, is_blank}

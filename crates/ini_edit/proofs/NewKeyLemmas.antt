@@ -1,10 +1,8 @@
 -- A key as it is written between white space, in the place of another key, read back there.
-use Rattle.std.proofs.Common.{◌≡◌, ◌≢◌, ◌⊎◌, inl, inr, ◌∙◌, ℕ, Bool, true, false, not, ◌||◌, cond, eqb}
-use Rattle.std.proofs.Common.{List, [], ◌∷◌, ◌++◌}
-use Rattle.std.proofs.Common.{refl, sym, ap, subst, append_assoc, append-nil}
+use Rattle.std.proofs.Common.{◌≡◌, ◌≢◌, ◌⊎◌, inl, inr, ◌∙◌, ℕ, Bool, true, false, not, ◌||◌, cond, eqb, List}
+use Rattle.std.proofs.Common.{[], ◌∷◌, ◌++◌, refl, sym, ap, subst, append_assoc, append-nil}
 use Rattle.std.proofs.lemmas.Bool.{and_from, and_left, and_parts, both_ways, cases_Bool, cond-false}
-use Rattle.std.proofs.lemmas.Bool.{cond_both}
-use Rattle.std.proofs.lemmas.Bool.{false≢true, not-true, or_from, or_left, or_parts}
+use Rattle.std.proofs.lemmas.Bool.{cond_both, false≢true, not-true, or_from, or_left, or_parts}
 use Rattle.std.specs.Char.{is_whitespace}
 use Rattle.std.specs.List.{list_all}
 use Rattle.std.specs.Str.{drop_trailing_whitespace, skip_leading_whitespace}
@@ -31,8 +29,7 @@ use Rattle.ini_text.proofs.LawLemmas.PieceLemmas.{last_or-append}
 use Rattle.ini_text.proofs.PlainLemmas.EscapedTextLemmas.{all_read, row_escaped}
 use Rattle.ini_text.proofs.ReaderLemmas.StringReaderLemmas.{no_note_after, note_parts}
 use Rattle.ini_text.proofs.PlainLemmas.PlainPairLemmas.{bare_begins, bare_indented, bare_unindented}
-use Rattle.ini_text.proofs.PlainLemmas.PlainPairLemmas.{key_no_end, no_white_no_line_end}
-use Rattle.ini_text.proofs.PlainLemmas.PlainPairLemmas.{value_no_end}
+use Rattle.ini_text.proofs.PlainLemmas.PlainPairLemmas.{key_no_end, no_white_no_line_end, value_no_end}
 use Rattle.ini_text.proofs.PlainLemmas.PlainTrimLemmas.{skip_none, trimmed_begins, trimmed_end}
 use Rattle.ini_edit.proofs.EndingLemmas.{apart_by}
 use Rattle.ini_edit.specs.Places.{Follows}

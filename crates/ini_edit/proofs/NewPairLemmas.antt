@@ -23,8 +23,7 @@ use Rattle.ini_text.proofs.GrammarLemmas.KindLemmas.{blank_inline, blank_is_whit
 use Rattle.ini_text.proofs.LawLemmas.LocalLemmas.{KeyFront-like}
 use Rattle.ini_text.proofs.PlainLemmas.EscapedTextLemmas.{all_read}
 use Rattle.ini_text.proofs.PlainLemmas.PlainPairLemmas.{bare_indented, inline_blanks, key_front}
-use Rattle.ini_text.proofs.PlainLemmas.PlainPairLemmas.{separator_closes}
-use Rattle.ini_text.proofs.PlainLemmas.PlainPairLemmas.{key_some}
+use Rattle.ini_text.proofs.PlainLemmas.PlainPairLemmas.{separator_closes, key_some}
 use Rattle.ini.specs.Texts.{Text}
 use Rattle.ini_edit.specs.Inside.Spans.{IsPair}
 use Rattle.ini_edit.specs.Places.{Follows}

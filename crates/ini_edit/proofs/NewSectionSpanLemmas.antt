@@ -2,8 +2,7 @@
 use Rattle.std.proofs.Common.{◌≡◌, ◌∙◌, ℕ, Bool, true, [], ◌∷◌, ◌++◌, Some, ap, append_assoc}
 use Rattle.std.proofs.Common.{append-nil, inl, inr, refl, subst, sym}
 use Rattle.std.proofs.lemmas.Bool.{cases_Bool, cond-false, cond-true, or_left}
-use Rattle.ini_text.specs.Grammar.CharacterKinds.{BeginsWithNo, is_blank, is_line_end}
-use Rattle.ini_text.specs.Grammar.CharacterKinds.{line_feed}
+use Rattle.ini_text.specs.Grammar.CharacterKinds.{BeginsWithNo, is_blank, is_line_end, line_feed}
 use Rattle.ini_text.specs.Grammar.Places.{TrailingLines, pair_source, separator_text}
 use Rattle.ini_text.specs.Grammar.Positions.{last_or}
 use Rattle.ini_text.specs.Grammar.Strings.{Closes, bracketed_name_ends}

@@ -9,8 +9,7 @@ use Rattle.std.proofs.lemmas.List.Folds.{list_all-append}
 use Rattle.std.specs.List.{list_all}
 use Rattle.std.specs.Option.{option_map, option_or, unwrap_or}
 use Rattle.std.specs.Prelude.{⊤}
-use Rattle.ini_text.specs.Grammar.CharacterKinds.{equals, is_blank, is_line_end, is_separator}
-use Rattle.ini_text.specs.Grammar.CharacterKinds.{line_feed}
+use Rattle.ini_text.specs.Grammar.CharacterKinds.{equals, is_blank, is_line_end, is_separator, line_feed}
 use Rattle.ini_text.specs.Grammar.Places.{Stretches}
 use Rattle.ini_text.specs.Grammar.Positions.{last_or, starts_line}
 use Rattle.ini_text.specs.Laws.Plain.{IsPlainSeparator}
@@ -24,8 +23,7 @@ use Rattle.ini_edit.specs.Inside.InPlace.{AreInPlace}
 use Rattle.ini_edit.specs.Inside.SourceEnds.{IsPlaceAt, last_before, style_at, style_before, style_in}
 use Rattle.ini_edit.specs.Inside.SourceEnds.{style_in_first}
 use Rattle.ini_edit.specs.Inside.Spans.{AreSections, AreSpans, IsPair, IsSpan, Span, pairs_spans}
-use Rattle.ini_edit.specs.Inside.Spans.{sections_spans}
-use Rattle.ini_edit.specs.Inside.Spans.{span_source}
+use Rattle.ini_edit.specs.Inside.Spans.{sections_spans, span_source}
 use Rattle.ini_edit.specs.SourceLines.{after_blanks, blanks_at_end}
 use Rattle.ini_edit.specs.SourcePlaces.{Place, up_to_pairs}
 use Rattle.ini_edit.specs.SourceWritten.{IsFirstReadAs, IsReadAs, Style, first_or, last_that_begins}

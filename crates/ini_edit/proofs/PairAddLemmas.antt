@@ -15,12 +15,10 @@ use Rattle.ini.specs.Texts.{Text, is_name}
 use Rattle.ini_edit.specs.Inside.SourceEnds.{IsPlaceAt}
 use Rattle.ini_edit.specs.Inside.Spans.{AreSections}
 use Rattle.ini_edit.specs.SourceEditsAdd.{GapPlace, closed, first_place, made_after, pair_put_after}
-use Rattle.ini_edit.specs.SourceEditsAdd.{pair_put_first}
-use Rattle.ini_edit.specs.SourceEditsAdd.{pair_put_last, with_line_ended}
+use Rattle.ini_edit.specs.SourceEditsAdd.{pair_put_first, pair_put_last, with_line_ended}
 use Rattle.ini_edit.specs.SourceEditsDelete.{would_be_taken}
 use Rattle.ini_edit.specs.SourceEditsAdded.{made, style_after}
-use Rattle.ini_edit.specs.SourcePlaces.{Place, exchanged, is_nil, last_place}
-use Rattle.ini_edit.specs.SourcePlaces.{section_place}
+use Rattle.ini_edit.specs.SourcePlaces.{Place, exchanged, is_nil, last_place, section_place}
 use Rattle.ini_edit.specs.SourceWritten.{IsFirstReadAs, IsWritableNew, value_forms}
 use Rattle.ini_edit.specs.Sources.{PairPiece, SectionPiece, given_pair, given_section, is_multiline}
 use Rattle.ini_edit.proofs.ClosedPairLemmas.{closed_same}

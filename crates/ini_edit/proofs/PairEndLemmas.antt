@@ -1,8 +1,7 @@
 -- What follows a pair's value, or a key alone: its own lines, their line end, blank lines, and a gap; and
 -- the pair with that line ended.
 use Rattle.std.proofs.Common.{◌≡◌, ◌∙◌, ◌&&◌, Bool, true, false, not, cond, [], ◌∷◌, ◌++◌, ap, append-nil}
-use Rattle.std.proofs.Common.{inl}
-use Rattle.std.proofs.Common.{inr, refl, sym}
+use Rattle.std.proofs.Common.{inl, inr, refl, sym}
 use Rattle.std.proofs.lemmas.Bool.{and_right, cases_Bool, cond-false, cond-true, false≢true}
 use Rattle.ini_text.specs.Grammar.CharacterKinds.{backslash, space}
 use Rattle.ini_text.specs.Inside.LineReader.{past_note}

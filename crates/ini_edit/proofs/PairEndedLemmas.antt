@@ -1,6 +1,5 @@
 -- Multiline values that something follows: they end with a line end.
-use Rattle.std.proofs.Common.{◌≡◌, ◌≢◌, ◌∙◌, ℕ, true, false, [], ◌∷◌, ◌++◌, ap}
-use Rattle.std.proofs.Common.{refl}
+use Rattle.std.proofs.Common.{◌≡◌, ◌≢◌, ◌∙◌, ℕ, true, false, [], ◌∷◌, ◌++◌, ap, refl}
 use Rattle.std.proofs.lemmas.Bool.{both_ways}
 use Rattle.ini_text.specs.Grammar.CharacterKinds.{is_line_end, line_feed}
 use Rattle.ini_text.specs.Grammar.Places.{TrailingLines}
@@ -10,8 +9,7 @@ use Rattle.ini_text.specs.declared.option.ParseOption.{ParseOption}
 use Rattle.ini_text.proofs.LawLemmas.PieceLemmas.{last_or-append}
 use Rattle.ini.specs.Texts.{Text}
 use Rattle.ini_edit.specs.Endings.{Closing, Ending, ending_from, next_ending}
-use Rattle.ini_edit.proofs.EmptyLineLemmas.{closing_nothing}
-use Rattle.ini_edit.proofs.EmptyLineLemmas.{no_backslash, no_escape}
+use Rattle.ini_edit.proofs.EmptyLineLemmas.{closing_nothing, no_backslash, no_escape}
 
 line_end_last : (c : ℕ) {e r : Text} → LineEnd e r → is_line_end (last_or c e) ≡ true
 line_end_last c LineEnd.lf = refl

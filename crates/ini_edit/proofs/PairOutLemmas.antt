@@ -1,7 +1,6 @@
 -- A pair of a section made comments: the sections are those of a text, as before.
 use Rattle.std.proofs.Common.{◌≡◌, ◌∙◌, ◌==◌, ◌&&◌, ◌||◌, ℕ, Bool, true, false, not, List, [], ◌∷◌, ◌++◌}
-use Rattle.std.proofs.Common.{None, Option, Some, ap, append_assoc, append-nil, eqb-true, if◌then◌else◌}
-use Rattle.std.proofs.Common.{refl}
+use Rattle.std.proofs.Common.{None, Option, Some, ap, append_assoc, append-nil, eqb-true, if◌then◌else◌, refl}
 use Rattle.std.proofs.Common.{subst, sym}
 use Rattle.std.proofs.lemmas.Bool.{and_parts, false≢true, not-false}
 use Rattle.std.specs.List.{list_all}

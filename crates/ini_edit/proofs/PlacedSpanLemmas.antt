@@ -6,8 +6,8 @@ use Rattle.ini_text.specs.Grammar.CharacterKinds.{BeginsWithNo, is_comment_mark,
 use Rattle.ini_text.specs.Grammar.CharacterKinds.{line_feed}
 use Rattle.ini_text.specs.Grammar.Keys.{KeyFront}
 use Rattle.ini_text.specs.Grammar.Lines.{LineTail, LineText, Note}
-use Rattle.ini_text.specs.Grammar.Places.{ArePlaced, FollowsKey, HasValue, OwnLines, Stretches, separator_text}
-use Rattle.ini_text.specs.Grammar.Places.{value_source}
+use Rattle.ini_text.specs.Grammar.Places.{ArePlaced, FollowsKey, HasValue, OwnLines, Stretches}
+use Rattle.ini_text.specs.Grammar.Places.{separator_text, value_source}
 use Rattle.ini_text.specs.Grammar.Strings.{Closes, Str, noted, plain_ends}
 use Rattle.ini_text.specs.Options.Backslashes.{Backslash}
 use Rattle.ini_text.specs.Grammar.Positions.{last_or}

@@ -5,8 +5,7 @@ use Rattle.std.proofs.lemmas.Bool.{and_parts, both_ways, false_from_ne_true}
 use Rattle.std.specs.Char.{is_whitespace}
 use Rattle.std.specs.List.{list_all}
 use Rattle.ini_text.specs.Escaping.Policies.{is_escaped}
-use Rattle.ini_text.specs.Grammar.CharacterKinds.{space}
-use Rattle.ini_text.specs.Grammar.CharacterKinds.{begins}
+use Rattle.ini_text.specs.Grammar.CharacterKinds.{space, begins}
 use Rattle.ini_text.specs.Laws.Plain.{IsBareKey, IsPlainKey, IsPlainPair, IsPlainValue}
 use Rattle.ini_text.specs.declared.option.ParseOption.{ParseOption}
 use Rattle.ini_text.specs.declared.write.policy.EscapePolicy.{EscapePolicy}

@@ -3,8 +3,7 @@
 use Rattle.std.proofs.Common.{◌≡◌, ◌==◌, ◌∙◌, ◌&&◌, ℕ, Bool, true, false, not, List, [], ◌∷◌, ◌++◌, ap}
 use Rattle.std.proofs.Common.{append_assoc, append-nil, if◌then◌else◌, inl, inr, refl, subst, sym}
 use Rattle.std.proofs.lemmas.Bool.{and_right, both_ways, cases_Bool, cond-false, cond-true}
-use Rattle.std.proofs.lemmas.Bool.{false_from_ne_true}
-use Rattle.std.proofs.lemmas.Bool.{false≢true, or_left}
+use Rattle.std.proofs.lemmas.Bool.{false_from_ne_true, false≢true, or_left}
 use Rattle.ini_text.specs.Grammar.CharacterKinds.{BeginsWith, BeginsWithNo, carriage_return, is_blank}
 use Rattle.ini_text.specs.Grammar.CharacterKinds.{is_comment_mark, is_line_end, is_line_feed, line_feed}
 use Rattle.ini_text.specs.Grammar.CharacterKinds.{semicolon}
@@ -33,8 +32,7 @@ use Rattle.ini_edit.specs.Inside.Spans.{span_source}
 use Rattle.ini_edit.specs.Places.{Follows}
 use Rattle.ini_edit.specs.SourceEditsAdd.{Maker, closed, ended_lines, made_after, notes_behind_return}
 use Rattle.ini_edit.specs.SourceEditsAdd.{with_line_ended}
-use Rattle.ini_edit.specs.SourceEditsDelete.{empty_comment, gap_after, line_end_after, lines_after}
-use Rattle.ini_edit.specs.SourceEditsDelete.{own_lines}
+use Rattle.ini_edit.specs.SourceEditsDelete.{empty_comment, gap_after, line_end_after, lines_after, own_lines}
 use Rattle.ini_edit.specs.SourceEditsDelete.{would_be_taken}
 use Rattle.ini_edit.specs.SourceLines.{after_line_end, are_comments, is_empty}
 use Rattle.ini_edit.specs.SourcePlaces.{with_end}

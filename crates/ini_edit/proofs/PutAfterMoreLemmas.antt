@@ -1,8 +1,7 @@
 -- A pair put directly after another in a text in pieces where values may be multiline: the blank lines after
 -- that pair's own lines are the new pair's then.
-use Rattle.std.proofs.Common.{◌≡◌, ◌≢◌, ◌==◌, ◌∙◌, ◌&&◌, ℕ, Bool, true, false, not, List, [], ◌∷◌}
-use Rattle.std.proofs.Common.{◌++◌, ap, append_assoc, append-nil, if◌then◌else◌, inl, inr, refl, subst}
-use Rattle.std.proofs.Common.{sym}
+use Rattle.std.proofs.Common.{◌≡◌, ◌≢◌, ◌==◌, ◌∙◌, ◌&&◌, ℕ, Bool, true, false, not, List, [], ◌∷◌, ◌++◌, ap}
+use Rattle.std.proofs.Common.{append_assoc, append-nil, if◌then◌else◌, inl, inr, refl, subst, sym}
 use Rattle.std.proofs.lemmas.Bool.{both_ways, cases_Bool, cond-false, cond-true, false≢true, or_left}
 use Rattle.ini_text.specs.Grammar.CharacterKinds.{BeginsWith, BeginsWithNo, carriage_return, is_blank}
 use Rattle.ini_text.specs.Grammar.CharacterKinds.{is_comment_mark, is_line_end, is_line_feed, line_feed}
@@ -30,23 +29,19 @@ use Rattle.ini_edit.specs.SourceEditsAdd.{Maker, closed, end_after, ended_lines,
 use Rattle.ini_edit.specs.SourceEditsAdd.{with_line_ended}
 use Rattle.ini_edit.specs.SourceEditsDelete.{gap_after, line_end_after, lines_after, own_lines}
 use Rattle.ini_edit.specs.SourceEditsDelete.{would_be_taken}
-use Rattle.ini_edit.specs.SourceLines.{LinePlace, ends_in_line, is_empty, line_end_at_end}
-use Rattle.ini_edit.specs.SourceLines.{quiet_lines_at_end}
+use Rattle.ini_edit.specs.SourceLines.{LinePlace, ends_in_line, is_empty, line_end_at_end, quiet_lines_at_end}
 use Rattle.ini_edit.specs.SourcePlaces.{Place, exchanged, with_end}
 use Rattle.ini_edit.specs.SourceWritten.{Style, new_pair}
 use Rattle.ini_edit.specs.Sources.{PairPiece, SectionPiece, has_separator, is_multiline, joined}
 use Rattle.ini_edit.proofs.AheadLemmas.{value_follows}
 use Rattle.ini_edit.proofs.BlankLineLemmas.{line_last, trailing_blank}
-use Rattle.ini_edit.proofs.ClosedPairLemmas.{closed_is, closed_key, closed_stretches, key_closing}
-use Rattle.ini_edit.proofs.ClosedPairLemmas.{pair_ended}
+use Rattle.ini_edit.proofs.ClosedPairLemmas.{closed_is, closed_key, closed_stretches, key_closing, pair_ended}
 use Rattle.ini_edit.proofs.ClosedPairLemmas.{stays_open}
 use Rattle.ini_edit.proofs.DeletedLinesLemmas.{end_last, end_of, own_of}
 use Rattle.ini_edit.proofs.GapLemmas.{gap_like, no_gap}
 use Rattle.ini_edit.proofs.InPlaceLemmas.{Agree-after, in_place-exchanged, in_place-split}
-use Rattle.ini_edit.proofs.NewEndLemmas.{IsEndMore, more_end, trailing_last, trailing_line_end}
-use Rattle.ini_edit.proofs.NewEndLemmas.{written_more}
-use Rattle.ini_edit.proofs.NewPairLemmas.{IsPlainStyle, IsReadKey, IsSourceFor, new_pair_follows}
-use Rattle.ini_edit.proofs.NewPairLemmas.{new_pair_is}
+use Rattle.ini_edit.proofs.NewEndLemmas.{IsEndMore, more_end, trailing_last, trailing_line_end, written_more}
+use Rattle.ini_edit.proofs.NewPairLemmas.{IsPlainStyle, IsReadKey, IsSourceFor, new_pair_follows, new_pair_is}
 use Rattle.ini_edit.proofs.NextPairLemmas.{next_pairs, taken}
 use Rattle.ini_edit.proofs.PairEndLemmas.{gap_on, line_end_on, lines_on, no_line_end_on, own_on}
 use Rattle.ini_edit.proofs.PairTailLemmas.{pair_retailed}

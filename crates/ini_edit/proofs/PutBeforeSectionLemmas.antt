@@ -1,14 +1,11 @@
 -- A new pair put in before another pair of a section, and the comments directly above that: the sections are
 -- those of a text, as before.
-use Rattle.std.proofs.Common.{◌≡◌, ◌≢◌, ◌∙◌, ℕ, Bool, true, false, not, ◌&&◌, ◌||◌, cond, List, [], ◌∷◌}
-use Rattle.std.proofs.Common.{◌++◌}
-use Rattle.std.proofs.Common.{None, Some, ap, append_assoc, append-nil, if◌then◌else◌, inl, inr, refl}
-use Rattle.std.proofs.Common.{subst, sym}
-use Rattle.std.proofs.lemmas.Bool.{and_from, both_ways, cases_Bool, cond-false, cond-true}
-use Rattle.std.proofs.lemmas.Bool.{false_from_ne_true}
+use Rattle.std.proofs.Common.{◌≡◌, ◌≢◌, ◌∙◌, ℕ, Bool, true, false, not, ◌&&◌, ◌||◌, cond, List, [], ◌∷◌, ◌++◌}
+use Rattle.std.proofs.Common.{None, Some, ap, append_assoc, append-nil, if◌then◌else◌, inl, inr, refl, subst}
+use Rattle.std.proofs.Common.{sym}
+use Rattle.std.proofs.lemmas.Bool.{and_from, both_ways, cases_Bool, cond-false, cond-true, false_from_ne_true}
 use Rattle.std.proofs.lemmas.Bool.{false≢true, or_left}
-use Rattle.ini_text.specs.Grammar.CharacterKinds.{BeginsWith, is_blank, is_line_end, is_line_feed}
-use Rattle.ini_text.specs.Grammar.CharacterKinds.{line_feed}
+use Rattle.ini_text.specs.Grammar.CharacterKinds.{BeginsWith, is_blank, is_line_end, is_line_feed, line_feed}
 use Rattle.ini_text.specs.Grammar.Places.{Stretches, pair_source}
 use Rattle.ini_text.specs.Grammar.Positions.{last_or}
 use Rattle.ini_text.specs.Grammar.CharacterKinds.{begins}
@@ -19,9 +16,8 @@ use Rattle.ini_text.proofs.StringLemmas.FrontLemmas.{front_is}
 use Rattle.ini.specs.Texts.{Text}
 use Rattle.ini_edit.specs.Inside.InPlace.{AreInPlace}
 use Rattle.ini_edit.specs.Inside.SourceEnds.{IsPlaceAt}
-use Rattle.ini_edit.specs.Inside.Spans.{AreSections, AreSpans, IsGap, IsPair, IsSpan, Span}
-use Rattle.ini_edit.specs.Inside.Spans.{gap}
-use Rattle.ini_edit.specs.Inside.Spans.{opening, pair, pairs_spans, sections_spans, span_source}
+use Rattle.ini_edit.specs.Inside.Spans.{AreSections, AreSpans, IsGap, IsPair, IsSpan, Span, gap, opening}
+use Rattle.ini_edit.specs.Inside.Spans.{pair, pairs_spans, sections_spans, span_source}
 use Rattle.ini_edit.specs.Places.{Follows}
 use Rattle.ini_edit.specs.SourceEditsAdd.{Maker, pair_put_before, would_go_on}
 use Rattle.ini_edit.specs.SourceLines.{LinePlace, are_comments, comments_at_end, is_empty}

@@ -1,8 +1,6 @@
 -- A pair put into a section without pairs: the sections are those of a text, as before.
-use Rattle.std.proofs.Common.{◌≡◌, ◌≢◌, ◌∙◌, ◌⊎◌, ℕ, true, false, cond, List, [], ◌∷◌, ◌++◌, None}
-use Rattle.std.proofs.Common.{Option, Some, ap, append_assoc, append-nil, arith, inl, inr, length, refl}
-use Rattle.std.proofs.Common.{subst}
-use Rattle.std.proofs.Common.{sym}
+use Rattle.std.proofs.Common.{◌≡◌, ◌≢◌, ◌∙◌, ◌⊎◌, ℕ, true, false, cond, List, [], ◌∷◌, ◌++◌, None, Option}
+use Rattle.std.proofs.Common.{Some, ap, append_assoc, append-nil, arith, inl, inr, length, refl, subst, sym}
 use Rattle.std.proofs.lemmas.Bool.{and_parts, both_ways, cases_Bool, cond-false, false≢true}
 use Rattle.std.specs.List.{list_all}
 use Rattle.std.specs.Option.{option_map}
@@ -19,12 +17,10 @@ use Rattle.ini_text.proofs.LawLemmas.PieceLemmas.{last_or-append}
 use Rattle.ini.specs.Texts.{Text}
 use Rattle.ini_edit.specs.Inside.InPlace.{AreInPlace}
 use Rattle.ini_edit.specs.Inside.SourceEnds.{IsPlaceAt}
-use Rattle.ini_edit.specs.Inside.Spans.{AreSections, AreSpans, BeginGeneral, IsGap, IsPair, IsSpan}
-use Rattle.ini_edit.specs.Inside.Spans.{Span, gap, opening}
-use Rattle.ini_edit.specs.Inside.Spans.{sections_spans, span_source}
+use Rattle.ini_edit.specs.Inside.Spans.{AreSections, AreSpans, BeginGeneral, IsGap, IsPair, IsSpan, Span, gap}
+use Rattle.ini_edit.specs.Inside.Spans.{opening, sections_spans, span_source}
 use Rattle.ini_edit.specs.SourceLines.{is_blank_or_line_end}
-use Rattle.ini_edit.specs.SourceEditsAdd.{GapPlace, Maker, end_at, first_place, pair_put_first}
-use Rattle.ini_edit.specs.SourceEditsAdd.{pair_put_last}
+use Rattle.ini_edit.specs.SourceEditsAdd.{GapPlace, Maker, end_at, first_place, pair_put_first, pair_put_last}
 use Rattle.ini_edit.specs.SourceLines.{is_empty}
 use Rattle.ini_edit.specs.SourcePlaces.{Place, exchanged, is_nil}
 use Rattle.ini_edit.specs.Sources.{PairPiece, SectionPiece, joined}
@@ -35,8 +31,7 @@ use Rattle.ini_edit.proofs.FirstPlaceLemmas.{first_stands, header_opens}
 use Rattle.ini_edit.proofs.FirstStaysLemmas.{first_some, first_stays}
 use Rattle.ini_edit.proofs.InPlaceLemmas.{in_place-before, in_place-join, in_place-split, joined-append}
 use Rattle.ini_edit.proofs.MakerLemmas.{MakesReadPairs, made_put}
-use Rattle.ini_edit.proofs.PutFirstLemmas.{EndAt, end_there, first_after, line_starts_there}
-use Rattle.ini_edit.proofs.PutFirstLemmas.{spans_put_first}
+use Rattle.ini_edit.proofs.PutFirstLemmas.{EndAt, end_there, first_after, line_starts_there, spans_put_first}
 use Rattle.ini_edit.proofs.QuietLemmas.{as_header}
 use Rattle.ini_edit.proofs.SectionBeginLemmas.{names_after, sections_begin}
 use Rattle.ini_edit.proofs.HeaderLemmas.{EmptyOrHeader, header_closed}

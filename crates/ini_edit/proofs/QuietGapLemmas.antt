@@ -6,9 +6,8 @@ use Rattle.std.proofs.lemmas.Bool.{and_parts, and_right, both_ways, cases_Bool, 
 use Rattle.std.proofs.lemmas.Bool.{false≢true, or_cases, or_parts}
 use Rattle.std.proofs.lemmas.List.Folds.{list_all-append}
 use Rattle.std.specs.List.{list_all}
-use Rattle.ini_text.specs.Grammar.CharacterKinds.{carriage_return, is_blank, is_comment_mark}
-use Rattle.ini_text.specs.Grammar.CharacterKinds.{is_inline_white, is_line_end, is_line_feed, line_feed}
-use Rattle.ini_text.specs.Grammar.CharacterKinds.{space}
+use Rattle.ini_text.specs.Grammar.CharacterKinds.{carriage_return, is_blank, is_comment_mark, is_inline_white}
+use Rattle.ini_text.specs.Grammar.CharacterKinds.{is_line_end, is_line_feed, line_feed, space}
 use Rattle.ini_text.specs.Grammar.Elements.{Element, Gap}
 use Rattle.ini_text.specs.Grammar.Keys.{Indentation, begins_note}
 use Rattle.ini_text.specs.Grammar.Lines.{Note}

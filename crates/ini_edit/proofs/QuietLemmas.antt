@@ -8,9 +8,8 @@ use Rattle.std.proofs.lemmas.List.Folds.{list_all-append}
 use Rattle.std.specs.Char.{is_whitespace}
 use Rattle.std.specs.List.{list_all}
 use Rattle.ini_text.specs.Grammar.CharacterKinds.{BeginsWith, BeginsWithNo, carriage_return, close_bracket}
-use Rattle.ini_text.specs.Grammar.CharacterKinds.{is_blank}
-use Rattle.ini_text.specs.Grammar.CharacterKinds.{is_comment_mark, is_line_end, is_line_feed, is_separator}
-use Rattle.ini_text.specs.Grammar.CharacterKinds.{line_feed, open_bracket}
+use Rattle.ini_text.specs.Grammar.CharacterKinds.{is_blank, is_comment_mark, is_line_end, is_line_feed}
+use Rattle.ini_text.specs.Grammar.CharacterKinds.{is_separator, line_feed, open_bracket}
 use Rattle.ini_text.specs.Grammar.Elements.{Element, Gap, Given, Header, IsBracketed, Pair, may_have_note}
 use Rattle.ini_text.specs.Grammar.Keys.{Indentation, KeyFront, begins_indented_key}
 use Rattle.ini_text.specs.Grammar.Lines.{Note}

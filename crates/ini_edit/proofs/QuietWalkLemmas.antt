@@ -1,8 +1,7 @@
 -- Lines after a value, which give line feeds alone: a walk over them knows where each ends.
-use Rattle.std.proofs.Common.{◌≡◌, ◌≢◌, ◌∙◌, ◌==◌, ◌&&◌, ◌||◌, ℕ, Bool, true, false, not, Some, []}
-use Rattle.std.proofs.Common.{◌∷◌, ◌++◌, ap, append_assoc, append-nil, eqb, eqb-true, if◌then◌else◌, inl}
-use Rattle.std.proofs.Common.{inr}
-use Rattle.std.proofs.Common.{refl, subst, sym}
+use Rattle.std.proofs.Common.{◌≡◌, ◌≢◌, ◌∙◌, ◌==◌, ◌&&◌, ◌||◌, ℕ, Bool, true, false, not, Some, [], ◌∷◌, ◌++◌}
+use Rattle.std.proofs.Common.{ap, append_assoc, append-nil, eqb, eqb-true, if◌then◌else◌, inl, inr, refl}
+use Rattle.std.proofs.Common.{subst, sym}
 use Rattle.std.specs.Prelude.{⊤}
 use Rattle.std.proofs.lemmas.Bool.{and_left, and_parts, and_right, both_ways, cond-false, cond-true}
 use Rattle.std.proofs.lemmas.Bool.{false_from_ne_true, false≢true, not-true, or_cases, or_from, or_parts}
@@ -11,11 +10,9 @@ use Rattle.std.proofs.lemmas.Option.{cond_some}
 use Rattle.std.specs.Char.{is_digit}
 use Rattle.std.specs.List.{list_all}
 use Rattle.ini_text.specs.Grammar.CharacterKinds.{BeginsWith, BeginsWithNo, backslash, begins}
-use Rattle.ini_text.specs.Grammar.CharacterKinds.{carriage_return}
-use Rattle.ini_text.specs.Grammar.CharacterKinds.{hash, is_blank, is_comment_mark, is_inline_white}
-use Rattle.ini_text.specs.Grammar.CharacterKinds.{is_line_end, is_line_feed, is_quote_mark, letter_x}
-use Rattle.ini_text.specs.Grammar.CharacterKinds.{line_feed}
-use Rattle.ini_text.specs.Grammar.CharacterKinds.{plus, semicolon, space, tab}
+use Rattle.ini_text.specs.Grammar.CharacterKinds.{carriage_return, hash, is_blank, is_comment_mark}
+use Rattle.ini_text.specs.Grammar.CharacterKinds.{is_inline_white, is_line_end, is_line_feed, is_quote_mark}
+use Rattle.ini_text.specs.Grammar.CharacterKinds.{letter_x, line_feed, plus, semicolon, space, tab}
 use Rattle.ini_text.specs.Grammar.EscapeSequences.{EscapeSequence, spelled}
 use Rattle.ini_text.specs.Grammar.Keys.{begins_note}
 use Rattle.ini_text.specs.Grammar.Lines.{Line, LineTail, LineText, Note, Quoted}
@@ -26,9 +23,8 @@ use Rattle.ini_text.specs.Options.Backslashes.{begins_escape, is_special}
 use Rattle.ini_text.specs.Options.ReadOptions.{backslash_of}
 use Rattle.ini_text.specs.declared.option.ParseOption.{ParseOption}
 use Rattle.ini.specs.Texts.{Text}
-use Rattle.ini_edit.specs.SourceLines.{LinePlace, are_quiet, ends_line, is_blank_or_line_end}
-use Rattle.ini_edit.specs.SourceLines.{is_line, is_line_from, next_place}
-use Rattle.ini_edit.specs.SourceLines.{quiet_lines_from}
+use Rattle.ini_edit.specs.SourceLines.{LinePlace, are_quiet, ends_line, is_blank_or_line_end, is_line}
+use Rattle.ini_edit.specs.SourceLines.{is_line_from, next_place, quiet_lines_from}
 
 -- neither a backslash nor a line end nor a blank
 record IsWithin (o : ParseOption) (c : ℕ) : Type 0 where

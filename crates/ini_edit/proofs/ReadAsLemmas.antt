@@ -1,16 +1,14 @@
 -- A value that is read back from a line of its own is read so in a pair's place too: between white space,
 -- before what is kept after it.
-use Rattle.std.proofs.Common.{◌≡◌, ◌≢◌, ◌∙◌, ℕ, true, false, [], ◌∷◌, ◌++◌, append-nil, append_assoc}
-use Rattle.std.proofs.Common.{None, Some, ap, arith, inl, inr, length, length-append, refl, subst}
-use Rattle.std.proofs.Common.{subst₂, sym}
+use Rattle.std.proofs.Common.{◌≡◌, ◌≢◌, ◌∙◌, ℕ, true, false, [], ◌∷◌, ◌++◌, append-nil, append_assoc, None}
+use Rattle.std.proofs.Common.{Some, ap, arith, inl, inr, length, length-append, refl, subst, subst₂, sym}
 use Rattle.std.proofs.lemmas.Bool.{and_parts, both_ways, cases_Bool}
 use Rattle.std.specs.List.{list_all}
 use Rattle.ini_text.specs.declared.option.ParseOption.{ParseOption}
 use Rattle.ini_text.specs.Grammar.CharacterKinds.{BeginsWithNo, begins, equals, is_comment_mark}
 use Rattle.ini_text.specs.Grammar.CharacterKinds.{is_inline_white, is_line_feed, line_feed}
 use Rattle.ini_text.specs.Grammar.Lines.{Line, LineTail, LineText, Note, Quoted}
-use Rattle.ini_text.specs.Grammar.Places.{FollowsKey, HasValue, LastLine, OwnLines, Stretches}
-use Rattle.ini_text.specs.Grammar.Places.{TrailingLines}
+use Rattle.ini_text.specs.Grammar.Places.{FollowsKey, HasValue, LastLine, OwnLines, Stretches, TrailingLines}
 use Rattle.ini_text.specs.Grammar.Strings.{Closes, Row, Str, plain_ends}
 use Rattle.ini_text.specs.Grammar.Values.{GoesOn, LineEnd, MoreLines, Value}
 use Rattle.ini_text.specs.Grammar.WhiteSpace.{Lead, without_outer_line_feeds}

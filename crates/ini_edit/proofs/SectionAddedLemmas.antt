@@ -18,8 +18,7 @@ use Rattle.ini_text.proofs.StringLemmas.FrontLemmas.{front_is}
 use Rattle.ini.specs.Texts.{Text}
 use Rattle.ini_edit.specs.Inside.SourceEnds.{put_after_kept}
 use Rattle.ini_edit.specs.Inside.InPlace.{AreInPlace}
-use Rattle.ini_edit.specs.Inside.Spans.{AreSections, AreSpans, IsGap, IsPair, IsSpan, Span}
-use Rattle.ini_edit.specs.Inside.Spans.{gap, opening}
+use Rattle.ini_edit.specs.Inside.Spans.{AreSections, AreSpans, IsGap, IsPair, IsSpan, Span, gap, opening}
 use Rattle.ini_edit.specs.Inside.Spans.{pair, pairs_spans, section_spans, sections_spans, span_source}
 use Rattle.ini_edit.specs.Places.{Follows}
 use Rattle.ini_edit.specs.SourceEdits.{with_pairs}
@@ -29,10 +28,8 @@ use Rattle.ini_edit.specs.SourceEditsSections.{ended_for_section, ends_empty, is
 use Rattle.ini_edit.specs.SourceEditsSections.{with_last_closed}
 use Rattle.ini_edit.specs.SourceLines.{is_empty}
 use Rattle.ini_edit.specs.SourcePlaces.{Place, gap_of, last_before_gap, last_before_section, last_changed}
-use Rattle.ini_edit.specs.SourcePlaces.{last_gap}
-use Rattle.ini_edit.specs.SourcePlaces.{with_raw_value}
-use Rattle.ini_edit.specs.Sources.{PairPiece, SectionPiece, has_separator, is_multiline, joined}
-use Rattle.ini_edit.specs.Sources.{section_text}
+use Rattle.ini_edit.specs.SourcePlaces.{last_gap, with_raw_value}
+use Rattle.ini_edit.specs.Sources.{PairPiece, SectionPiece, has_separator, is_multiline, joined, section_text}
 use Rattle.ini_edit.proofs.AddedSpanLemmas.{feed_of, gap_either, kept_ended, spans_ended, spans_headed}
 use Rattle.ini_edit.proofs.AddedSpanLemmas.{spans_kept}
 use Rattle.ini_edit.proofs.GapPartLemmas.{gap_nothing, some_before}
@@ -48,9 +45,8 @@ use Rattle.ini_edit.proofs.SectionBeginLemmas.{name_after}
 use Rattle.ini_edit.proofs.SectionEndLemmas.{LastOf, last_of, put_name, put_nothing, put_one, regroup_last}
 use Rattle.ini_edit.proofs.SectionEndLemmas.{spans_last, up_to_last}
 use Rattle.ini_edit.proofs.SectionEndedLemmas.{IsEnded, and_no, begin_more, begins_same, empty_part}
-use Rattle.ini_edit.proofs.SectionEndedLemmas.{empty_rest, ended_after, ended_end, is_ended}
-use Rattle.ini_edit.proofs.SectionEndedLemmas.{pair_closes, regroup_end, regroup_put, same_last}
-use Rattle.ini_edit.proofs.SectionEndedLemmas.{some_front, some_or}
+use Rattle.ini_edit.proofs.SectionEndedLemmas.{empty_rest, ended_after, ended_end, is_ended, pair_closes}
+use Rattle.ini_edit.proofs.SectionEndedLemmas.{regroup_end, regroup_put, same_last, some_front, some_or}
 use Rattle.ini_edit.proofs.HeaderLemmas.{EmptyOrHeader, header_follows}
 use Rattle.ini_edit.proofs.SectionPlaceLemmas.{IsCutFor}
 use Rattle.ini_edit.proofs.SectionTakenLemmas.{IsFeed, with_trailing}

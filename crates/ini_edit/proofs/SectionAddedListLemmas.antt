@@ -1,9 +1,7 @@
 -- What putting a section in makes of the list of sections, and of the document.
 use Rattle.std.proofs.Common.{◌≡◌, ◌≢◌, ◌∙◌, ◌+◌, ℕ, Bool, true, false, not, List, [], ◌∷◌, ◌++◌, None}
-use Rattle.std.proofs.Common.{Option, Some}
-use Rattle.std.proofs.Common.{ap, append_assoc, append-nil, arith, get_or, length, map, refl, set, subst}
-use Rattle.std.proofs.Common.{sym}
-use Rattle.std.proofs.Common.{take}
+use Rattle.std.proofs.Common.{Option, Some, ap, append_assoc, append-nil, arith, get_or, length, map, refl}
+use Rattle.std.proofs.Common.{set, subst, sym, take}
 use Rattle.std.proofs.lemmas.List.{drop_all, get_or_at, length-append, length-take-le, map-append, set_at}
 use Rattle.std.specs.Option.{option_map}
 use Rattle.std.specs.Prelude.{IfSome, is_some}
@@ -22,12 +20,10 @@ use Rattle.ini.specs.Texts.{Text}
 use Rattle.ini_edit.specs.Inside.InPlace.{AreInPlace}
 use Rattle.ini_edit.specs.Inside.SourceEnds.{MakesPairs, end_put_at, end_put_last, maker_of, place_in}
 use Rattle.ini_edit.specs.Inside.Spans.{AreSections, AreSpans, IsGap, IsSpan, gap, section_spans}
-use Rattle.ini_edit.specs.Inside.Spans.{sections_spans}
-use Rattle.ini_edit.specs.Inside.Spans.{span_source}
+use Rattle.ini_edit.specs.Inside.Spans.{sections_spans, span_source}
 use Rattle.ini_edit.specs.SourceEditsAdd.{Maker, closed}
 use Rattle.ini_edit.specs.SourceEditsSections.{after_new_section, ended_for_section, is_ended_for}
-use Rattle.ini_edit.specs.SourceEditsSections.{lines_between}
-use Rattle.ini_edit.specs.SourceEditsSections.{new_section, section_put, with_last_closed}
+use Rattle.ini_edit.specs.SourceEditsSections.{lines_between, new_section, section_put, with_last_closed}
 use Rattle.ini_edit.specs.SourcePlaces.{Place, last_before_gap, last_before_section, last_changed, last_gap}
 use Rattle.ini_edit.specs.SourcePlaces.{last_place, one_on}
 use Rattle.ini_edit.specs.Sources.{PairPiece, SectionPiece, given_pair, given_section, section_text}

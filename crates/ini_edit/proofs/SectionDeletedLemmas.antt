@@ -1,7 +1,6 @@
 -- A section taken out of sections that are those of a text.
-use Rattle.std.proofs.Common.{◌≡◌, ◌≢◌, ◌∙◌, ◌==◌, ◌&&◌, ℕ, Bool, true, false, cond, not, List, [], ◌∷◌}
-use Rattle.std.proofs.Common.{◌++◌, ap, append_assoc, append-nil, inl, inr, refl}
-use Rattle.std.proofs.Common.{subst, sym}
+use Rattle.std.proofs.Common.{◌≡◌, ◌≢◌, ◌∙◌, ◌==◌, ◌&&◌, ℕ, Bool, true, false, cond, not, List, [], ◌∷◌, ◌++◌}
+use Rattle.std.proofs.Common.{ap, append_assoc, append-nil, inl, inr, refl, subst, sym}
 use Rattle.std.proofs.lemmas.Bool.{and_from, and_parts, cases_Bool, cond-false, cond-true}
 use Rattle.std.proofs.lemmas.Bool.{false≢true, or_left}
 use Rattle.std.specs.List.{list_all}
@@ -16,9 +15,8 @@ use Rattle.ini_text.proofs.ReaderLemmas.LineReaderLemmas.{TextEnds}
 use Rattle.ini_text.proofs.StringLemmas.FrontLemmas.{front_is}
 use Rattle.ini.specs.Texts.{Text}
 use Rattle.ini_edit.specs.Inside.InPlace.{AreInPlace}
-use Rattle.ini_edit.specs.Inside.Spans.{AreSections, AreSpans, IsGap, IsSpan, Span, gap}
-use Rattle.ini_edit.specs.Inside.Spans.{opening, pair, pairs_spans, section_spans, sections_spans}
-use Rattle.ini_edit.specs.Inside.Spans.{span_source}
+use Rattle.ini_edit.specs.Inside.Spans.{AreSections, AreSpans, IsGap, IsSpan, Span, gap, opening, pair}
+use Rattle.ini_edit.specs.Inside.Spans.{pairs_spans, section_spans, sections_spans, span_source}
 use Rattle.ini_edit.specs.Places.{Follows}
 use Rattle.ini_edit.specs.SourceEdits.{with_pairs}
 use Rattle.ini_edit.specs.SourceEditsDelete.{with_rest}
@@ -26,8 +24,7 @@ use Rattle.ini_edit.specs.SourceEditsSections.{line_end_before, section_rest, wi
 use Rattle.ini_edit.specs.SourceLines.{indentation_at_end, is_empty, line_end_at_end}
 use Rattle.ini_edit.specs.SourcePlaces.{Place, is_nil, last_before_gap, last_before_section}
 use Rattle.ini_edit.specs.SourcePlaces.{last_gap, with_end}
-use Rattle.ini_edit.specs.Sources.{PairPiece, SectionPiece, has_separator, is_multiline, joined}
-use Rattle.ini_edit.specs.Sources.{section_text}
+use Rattle.ini_edit.specs.Sources.{PairPiece, SectionPiece, has_separator, is_multiline, joined, section_text}
 use Rattle.ini_edit.proofs.AheadLemmas.{FollowsFront, closes_no_line}
 use Rattle.ini_edit.proofs.CommentLemmas.{begins_with}
 use Rattle.ini_edit.proofs.DeletedLinesLemmas.{IsLineEnd, end_is, end_last}
@@ -43,8 +40,7 @@ use Rattle.ini_edit.proofs.RestPutLemmas.{would_take}
 use Rattle.ini_edit.proofs.SectionBeginLemmas.{begin_without, bracket_front, bracket_no_note, bracket_some}
 use Rattle.ini_edit.proofs.SectionBeginLemmas.{has_name, header_begins, name_after, names_after}
 use Rattle.ini_edit.proofs.SectionBeginLemmas.{sections_begin}
-use Rattle.ini_edit.proofs.SectionEndLemmas.{LastOf, first_text, last_of, last_through, put_name}
-use Rattle.ini_edit.proofs.SectionEndLemmas.{put_nothing}
+use Rattle.ini_edit.proofs.SectionEndLemmas.{LastOf, first_text, last_of, last_through, put_name, put_nothing}
 use Rattle.ini_edit.proofs.SectionEndLemmas.{put_one, regroup, regroup_last, regroup_lines, regroup_put}
 use Rattle.ini_edit.proofs.SectionEndLemmas.{spans_last, up_to_last}
 use Rattle.ini_edit.proofs.HeaderLemmas.{EmptyOrHeader}
@@ -53,8 +49,7 @@ use Rattle.ini_edit.proofs.SectionTakenLemmas.{AreLike, IsFeed, IsKept, IsSplit,
 use Rattle.ini_edit.proofs.SectionTakenLemmas.{following, fore_end, gap_taken, kept_of, lines_taken}
 use Rattle.ini_edit.proofs.SectionTakenLemmas.{section_end, split, with_trailing}
 use Rattle.ini_edit.proofs.SourceReadLemmas.{begin-same, pairs_spans-append, sections_spans-append}
-use Rattle.ini_edit.proofs.SourceSpanLemmas.{last_of_gap, spans_to_gap}
-use Rattle.ini_edit.proofs.SourceSpanLemmas.{text_to_gap}
+use Rattle.ini_edit.proofs.SourceSpanLemmas.{last_of_gap, spans_to_gap, text_to_gap}
 
 none_within : (s t : Text) → s ++ t ≡ [] → s ≡ []
 none_within [] t none = refl

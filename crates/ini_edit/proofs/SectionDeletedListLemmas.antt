@@ -1,9 +1,7 @@
 -- What taking a section out makes of the list of sections at an index, and of the document.
-use Rattle.std.proofs.Common.{◌≡◌, ◌≢◌, ◌∙◌, ◌&&◌, ◌+◌, ℕ, Bool, true, false, cond, List, [], ◌∷◌, ◌++◌}
-use Rattle.std.proofs.Common.{None}
-use Rattle.std.proofs.Common.{Option, Some}
-use Rattle.std.proofs.Common.{◌==◌, ap, append_assoc, arith, get_or, length, map, refl, set, subst, sym}
-use Rattle.std.proofs.Common.{drop, take}
+use Rattle.std.proofs.Common.{◌≡◌, ◌≢◌, ◌∙◌, ◌&&◌, ◌+◌, ℕ, Bool, true, false, cond, List, [], ◌∷◌, ◌++◌, None}
+use Rattle.std.proofs.Common.{Option, Some, ◌==◌, ap, append_assoc, arith, get_or, length, map, refl, set}
+use Rattle.std.proofs.Common.{subst, sym, drop, take}
 use Rattle.std.proofs.Math.Seq.{take-length}
 use Rattle.std.proofs.lemmas.Bool.{cond-false, cond-true, eq-eqb, false≢true, ne_eqb}
 use Rattle.std.proofs.lemmas.List.{drop_all, get_or_at, length-append, map-append, set_at, take_at}
@@ -21,8 +19,7 @@ use Rattle.ini_edit.specs.Inside.SourceEnds.{put_after_kept}
 use Rattle.ini_edit.specs.Inside.Spans.{AreSections, BeginGeneral}
 use Rattle.ini_edit.specs.SourceEditsDelete.{with_rest}
 use Rattle.ini_edit.specs.SourceEditsSections.{line_end_before, section_deleted_after, section_deleted_at}
-use Rattle.ini_edit.specs.SourceEditsSections.{section_rest}
-use Rattle.ini_edit.specs.SourceEditsSections.{with_rest_of_next}
+use Rattle.ini_edit.specs.SourceEditsSections.{section_rest, with_rest_of_next}
 use Rattle.ini_edit.specs.SourceLines.{indentation_at_end, is_empty}
 use Rattle.ini_edit.specs.SourcePlaces.{Place, is_nil, last_before_gap, last_gap, last_place, nth_place}
 use Rattle.ini_edit.specs.SourcePlaces.{one_on, section_place, with_end}

@@ -1,19 +1,15 @@
 -- The last parts of a section: what an edit there makes of it, and of its spans.
-use Rattle.std.proofs.Common.{◌≡◌, ◌∙◌, List, [], ◌∷◌}
-use Rattle.std.proofs.Common.{◌++◌, ap, append_assoc, append-nil, refl}
-use Rattle.std.proofs.Common.{sym}
+use Rattle.std.proofs.Common.{◌≡◌, ◌∙◌, List, [], ◌∷◌, ◌++◌, ap, append_assoc, append-nil, refl, sym}
 use Rattle.ini_text.specs.Grammar.CharacterKinds.{line_feed}
 use Rattle.ini_text.specs.Grammar.Positions.{last_or}
 use Rattle.ini_text.specs.declared.option.ParseOption.{ParseOption}
 use Rattle.ini_text.proofs.LawLemmas.PieceLemmas.{last_or-append}
 use Rattle.ini.specs.Texts.{Text}
 use Rattle.ini_edit.specs.Inside.SourceEnds.{put_after_kept}
-use Rattle.ini_edit.specs.Inside.Spans.{Span, gap}
-use Rattle.ini_edit.specs.Inside.Spans.{pair, pairs_spans, section_spans, span_source}
+use Rattle.ini_edit.specs.Inside.Spans.{Span, gap, pair, pairs_spans, section_spans, span_source}
 use Rattle.ini_edit.specs.SourceEdits.{with_pairs}
 use Rattle.ini_edit.specs.SourceEditsDelete.{rest_put, with_rest}
-use Rattle.ini_edit.specs.SourcePlaces.{gap_put}
-use Rattle.ini_edit.specs.SourcePlaces.{last_gap, with_after}
+use Rattle.ini_edit.specs.SourcePlaces.{gap_put, last_gap, with_after}
 use Rattle.ini_edit.specs.Sources.{PairPiece, SectionPiece, joined}
 use Rattle.ini_edit.proofs.InPlaceLemmas.{joined-append}
 use Rattle.ini_edit.proofs.SourcePlaceLemmas.{gap_put-end, rest_put-end}

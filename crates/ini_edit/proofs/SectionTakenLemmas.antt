@@ -5,8 +5,7 @@ use Rattle.std.specs.List.{list_all}
 use Rattle.std.specs.Prelude.{◌⊎◌, ⊤, is_some}
 use Rattle.std.proofs.lemmas.Bool.{and_from, both_ways, false≢true, or_left}
 use Rattle.ini_text.specs.Grammar.CharacterKinds.{BeginsWith, BeginsWithNo, is_blank, is_comment_mark}
-use Rattle.ini_text.specs.Grammar.CharacterKinds.{is_line_end}
-use Rattle.ini_text.specs.Grammar.CharacterKinds.{is_line_feed, line_feed}
+use Rattle.ini_text.specs.Grammar.CharacterKinds.{is_line_end, is_line_feed, line_feed}
 use Rattle.ini_text.specs.Grammar.Places.{Stretches, TrailingLines, after_key_source, pair_source}
 use Rattle.ini_text.specs.Grammar.Places.{value_source}
 use Rattle.ini_text.specs.Grammar.Positions.{last_or}

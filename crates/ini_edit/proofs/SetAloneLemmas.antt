@@ -9,8 +9,7 @@ use Rattle.ini_text.specs.Grammar.Positions.{last_or}
 use Rattle.ini_text.specs.declared.option.ParseOption.{ParseOption}
 use Rattle.ini_text.specs.declared.write.policy.EscapePolicy.{EscapePolicy}
 use Rattle.ini.specs.Texts.{Text, is_text}
-use Rattle.ini_edit.specs.Inside.SourceEnds.{IsPlaceAt, IsSetAlone, IsSetAt, IsWithout}
-use Rattle.ini_edit.specs.Inside.SourceEnds.{last_before}
+use Rattle.ini_edit.specs.Inside.SourceEnds.{IsPlaceAt, IsSetAlone, IsSetAt, IsWithout, last_before}
 use Rattle.ini_edit.specs.Inside.Spans.{AreSections}
 use Rattle.ini_edit.specs.SourceEdits.{with_pairs}
 use Rattle.ini_edit.specs.SourceEditsDelete.{count_of, deleted_from, deleted_times}

@@ -13,8 +13,7 @@ use Rattle.ini.specs.Documents.{Document}
 use Rattle.ini.specs.Edits.{add_in, edit_section, set_in}
 use Rattle.ini.specs.Properties.{Pairs, all_removed, first_value, inserted}
 use Rattle.ini.specs.Texts.{Text, is_name, is_text}
-use Rattle.ini_edit.specs.SourceEditsDelete.{count_of, deleted_at, deleted_nth, deleted_times}
-use Rattle.ini_edit.specs.SourceEditsDelete.{pair_taken_out}
+use Rattle.ini_edit.specs.SourceEditsDelete.{count_of, deleted_at, deleted_nth, deleted_times, pair_taken_out}
 use Rattle.ini_edit.specs.SourceEditsSet.{IsFirstSet, pair_changed_at, with_value_before}
 use Rattle.ini_edit.specs.SourcePlaces.{PairPlace, Place, edited_at, last_before_section, nth_place}
 use Rattle.ini_edit.specs.SourcePlaces.{pair_place, section_place}

@@ -1,8 +1,7 @@
 -- The last comment of elements that give nothing, or the last white space that is neither blank nor a line
 -- end: they are cut there.
-use Rattle.std.proofs.Common.{◌≡◌, ◌≢◌, ◌∙◌, ◌≤◌, ◌==◌, ◌&&◌, arith, inl, inr, length, ℕ, true}
-use Rattle.std.proofs.Common.{false, not, List, [], ◌∷◌}
-use Rattle.std.proofs.Common.{◌++◌, None, Option, Some, ap, append_assoc, refl, subst, sym}
+use Rattle.std.proofs.Common.{◌≡◌, ◌≢◌, ◌∙◌, ◌≤◌, ◌==◌, ◌&&◌, arith, inl, inr, length, ℕ, true, false, not}
+use Rattle.std.proofs.Common.{List, [], ◌∷◌, ◌++◌, None, Option, Some, ap, append_assoc, refl, subst, sym}
 use Rattle.std.specs.Prelude.{◌⊎◌}
 use Rattle.std.proofs.lemmas.Bool.{and_from, and_left, and_parts, and_right, both_ways, cases_Bool}
 use Rattle.std.proofs.lemmas.Bool.{cond-false, cond-true, false≢true, or_from, or_left, or_parts, or_right}
@@ -19,13 +18,11 @@ use Rattle.ini_text.proofs.GrammarLemmas.ItemLemmas.{element-some}
 use Rattle.ini_text.proofs.GrammarLemmas.KindLemmas.{comment_mark-apart}
 use Rattle.ini_text.proofs.LawLemmas.PieceLemmas.{last_or-append}
 use Rattle.ini.specs.Texts.{Text}
-use Rattle.ini_edit.specs.SourceLines.{is_blank_or_line_end}
-use Rattle.ini_edit.specs.SourceLines.{CommentState, begins_solid, from_last_solid, is_outside}
-use Rattle.ini_edit.specs.SourceLines.{last_solid_from, next_comment}
-use Rattle.ini_edit.proofs.DroppedKeyLemmas.{AreKeyless, blank_no_mark, blanks_no_feed_last}
-use Rattle.ini_edit.proofs.DroppedKeyLemmas.{closes_front, comment_begins, comment_goes_on, note_begins}
-use Rattle.ini_edit.proofs.DroppedKeyLemmas.{note_ends, note_goes_on, pieces_no_bracket, stays_outside}
-use Rattle.ini_edit.proofs.DroppedKeyLemmas.{white_no_mark}
+use Rattle.ini_edit.specs.SourceLines.{is_blank_or_line_end, CommentState, begins_solid, from_last_solid}
+use Rattle.ini_edit.specs.SourceLines.{is_outside, last_solid_from, next_comment}
+use Rattle.ini_edit.proofs.DroppedKeyLemmas.{AreKeyless, blank_no_mark, blanks_no_feed_last, closes_front}
+use Rattle.ini_edit.proofs.DroppedKeyLemmas.{comment_begins, comment_goes_on, note_begins, note_ends}
+use Rattle.ini_edit.proofs.DroppedKeyLemmas.{note_goes_on, pieces_no_bracket, stays_outside, white_no_mark}
 use Rattle.ini_edit.proofs.GapLemmas.{empty_front}
 use Rattle.ini_edit.proofs.GapPartLemmas.{some_before}
 use Rattle.ini_edit.proofs.QuietLemmas.{Free, NoteFront, Quiet, as_quiet, line_end_no_mark}

@@ -1,9 +1,6 @@
 -- A pair put into a text in pieces where values are in one line: two spans more, after a line end.
 use Rattle.std.proofs.Common.{◌≡◌, ◌≤◌, ◌∙◌, ◌&&◌, ◌||◌, ℕ, Bool, true, false, List, [], ◌∷◌, ◌++◌, ap}
-use Rattle.std.proofs.Common.{append_assoc}
-use Rattle.std.proofs.Common.{append-nil}
-use Rattle.std.proofs.Common.{arith, length, refl, subst, sym}
-use Rattle.std.proofs.Common.{inl, inr}
+use Rattle.std.proofs.Common.{append_assoc, append-nil, arith, length, refl, subst, sym, inl, inr}
 use Rattle.std.proofs.lemmas.Bool.{and_parts, both_ways, cases_Bool, false≢true}
 use Rattle.std.specs.List.{list_all}
 use Rattle.ini_text.specs.Grammar.CharacterKinds.{BeginsWith, BeginsWithNo, carriage_return, is_blank}

@@ -19,9 +19,8 @@ use Rattle.ini_edit.specs.SourceEditsComments.{IsCommentText, IsCommentedOut, co
 use Rattle.ini_edit.specs.SourceEditsComments.{in_section, lines_of_comment, pair_commented_out}
 use Rattle.ini_edit.specs.SourceEditsDelete.{deleted_at, pair_taken_out, rest_put, with_rest}
 use Rattle.ini_edit.specs.SourceLines.{is_empty}
-use Rattle.ini_edit.specs.SourcePlaces.{PairPlace, Place, exchanged, gap_put}
-use Rattle.ini_edit.specs.SourcePlaces.{last_before_section, edited_at, last_changed, pair_place}
-use Rattle.ini_edit.specs.SourcePlaces.{section_exchanged, with_end}
+use Rattle.ini_edit.specs.SourcePlaces.{PairPlace, Place, exchanged, gap_put, last_before_section, edited_at}
+use Rattle.ini_edit.specs.SourcePlaces.{last_changed, pair_place, section_exchanged, with_end}
 use Rattle.ini_edit.specs.NewLines.{line_end_of}
 use Rattle.ini_edit.specs.Sources.{PairPiece, Pieces, SectionPiece, given_pair, given_section, is_multiline}
 use Rattle.ini_edit.specs.Sources.{sections_text, text_in}

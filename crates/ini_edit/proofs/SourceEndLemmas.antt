@@ -20,8 +20,7 @@ use Rattle.ini_edit.specs.SourceEditsAdd.{closed, closed_word}
 use Rattle.ini_edit.specs.SourceEditsDelete.{line_end_after, lines_after, with_rest}
 use Rattle.ini_edit.specs.SourceEditsSections.{is_pair_ended, rest_before_header, with_last_closed}
 use Rattle.ini_edit.specs.SourceLines.{comments_at_end, indentation_at_end, is_empty}
-use Rattle.ini_edit.specs.SourcePlaces.{gap_of, last_gap, last_word, with_after, with_end}
-use Rattle.ini_edit.specs.SourcePlaces.{with_last_word}
+use Rattle.ini_edit.specs.SourcePlaces.{gap_of, last_gap, last_word, with_after, with_end, with_last_word}
 use Rattle.ini_edit.specs.Sources.{PairPiece, SectionPiece, is_multiline, joined, section_text}
 use Rattle.ini_edit.specs.declared.source.pair.ends.NewEnd.{NewEnd}
 use Rattle.ini_edit.proofs.SectionEndLemmas.{LastOf, last_of, put_one}

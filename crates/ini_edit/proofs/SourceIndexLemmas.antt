@@ -42,8 +42,7 @@ use Rattle.ini_edit.proofs.AddSourceLemmas.{made_there, put_so, put_there, stand
 use Rattle.ini_edit.proofs.DeletedSourceLemmas.{placed_in, taken_given}
 use Rattle.ini_edit.proofs.PairAddLemmas.{gives_last}
 use Rattle.ini_edit.proofs.SourcePlaceLemmas.{place_read, place_remove, place_set, place_take}
-use Rattle.ini_edit.proofs.SourceCommentLemmas.{comment_document, comment_exchanged, out_exchanged}
-use Rattle.ini_edit.proofs.SourceCommentLemmas.{out_given}
+use Rattle.ini_edit.proofs.SourceCommentLemmas.{comment_document, comment_exchanged, out_exchanged, out_given}
 use Rattle.ini_edit.proofs.SourceRenameLemmas.{spans_renamed}
 use Rattle.ini_edit.proofs.SourceSpanLemmas.{pairs_put_in, spans_after_pairs, spans_before_pairs}
 use Rattle.ini_edit.proofs.SourceWrittenLemmas.{before_given, changed_in, here_read}

@@ -7,8 +7,7 @@ use Rattle.std.proofs.lemmas.Str.{chars-nil, encodes-chars}
 use Rattle.std.specs.List.{list_all}
 use Rattle.std.specs.Option.{option_or}
 use Rattle.ini.specs.Texts.{Text}
-use Rattle.ini_text.specs.Grammar.CharacterKinds.{is_blank, is_comment_mark, is_line_end}
-use Rattle.ini_text.specs.Grammar.CharacterKinds.{is_line_feed}
+use Rattle.ini_text.specs.Grammar.CharacterKinds.{is_blank, is_comment_mark, is_line_end, is_line_feed}
 use Rattle.ini_text.specs.Grammar.Positions.{last_or}
 use Rattle.ini_text.specs.Grammar.CharacterKinds.{begins}
 use Rattle.ini_text.specs.Inside.LineReader.{past_note}
@@ -17,15 +16,13 @@ use Rattle.ini_text.specs.Parsing.Fronts.{IsRest, front_of}
 use Rattle.ini_text.proofs.ReaderLemmas.RunReaderLemmas.{run-sound}
 use Rattle.ini_text.proofs.StringLemmas.FrontLemmas.{front_grows, front_is}
 use Rattle.ini_text.specs.declared.option.ParseOption.{ParseOption}
-use Rattle.ini_edit.specs.SourceLines.{is_blank_or_line_end}
-use Rattle.ini_edit.specs.SourceLines.{after_blank_lines, after_blanks, after_comment, after_comments}
-use Rattle.ini_edit.specs.SourceLines.{after_line, after_line_end, after_line_feed, are_comments, are_quiet}
-use Rattle.ini_edit.specs.SourceLines.{LinePlace, blanks_at_end, quiet_lines_at_end, quiet_lines_from}
-use Rattle.ini_edit.specs.SourceLines.{CommentState, begins_solid, comments_at_end, dropped_key}
-use Rattle.ini_edit.specs.SourceLines.{dropped_key_from, from_last_solid, indentation_at_end, is_outside}
-use Rattle.ini_edit.specs.SourceLines.{last_solid_from, may_begin_key, next_comment}
-use Rattle.ini_edit.specs.SourceLines.{is_empty, is_in_comment, is_line, is_one_line_end, line_end_at_end}
-use Rattle.ini_edit.specs.SourceLines.{next_place}
+use Rattle.ini_edit.specs.SourceLines.{is_blank_or_line_end, after_blank_lines, after_blanks, after_comment}
+use Rattle.ini_edit.specs.SourceLines.{after_comments, after_line, after_line_end, after_line_feed}
+use Rattle.ini_edit.specs.SourceLines.{are_comments, are_quiet, LinePlace, blanks_at_end, quiet_lines_at_end}
+use Rattle.ini_edit.specs.SourceLines.{quiet_lines_from, CommentState, begins_solid, comments_at_end}
+use Rattle.ini_edit.specs.SourceLines.{dropped_key, dropped_key_from, from_last_solid, indentation_at_end}
+use Rattle.ini_edit.specs.SourceLines.{is_outside, last_solid_from, may_begin_key, next_comment, is_empty}
+use Rattle.ini_edit.specs.SourceLines.{is_in_comment, is_line, is_one_line_end, line_end_at_end, next_place}
 
 pub rest_from : (front rest text : Text) → front ++ rest ≡ text → IsRest text rest
 rest_from front rest text h = ap (λ x. x ++ rest) (front_is front rest text h) ∙ h

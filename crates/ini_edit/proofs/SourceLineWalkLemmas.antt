@@ -1,14 +1,12 @@
 -- What a walk over the lines between items knows, and how it goes on by one character.
 use Rattle.std.proofs.Common.{◌≡◌, ◌∙◌, ◌<◌, ◌||◌, ◌&&◌, ℕ, Bool, true, false, not, cond, [], ◌∷◌}
 use Rattle.std.proofs.Common.{Option, None, Some, ap, ap₂, arith, eqb, eqb-true, inl, inr, length, refl, sym}
-use Rattle.std.proofs.lemmas.Bool.{and_parts, cond-false, cond_both, false≢true, false_from_ne_true}
-use Rattle.std.proofs.lemmas.Bool.{or_cases}
+use Rattle.std.proofs.lemmas.Bool.{and_parts, cond-false, cond_both, false≢true, false_from_ne_true, or_cases}
 use Rattle.std.specs.List.{list_all}
 use Rattle.std.specs.Option.{option_or}
 use Rattle.ini.specs.Texts.{Text}
 use Rattle.ini_text.specs.Grammar.CharacterKinds.{is_blank, is_comment_mark, is_line_end, is_line_feed}
-use Rattle.ini_text.specs.Grammar.CharacterKinds.{line_feed, space, tab}
-use Rattle.ini_text.specs.Grammar.CharacterKinds.{begins}
+use Rattle.ini_text.specs.Grammar.CharacterKinds.{line_feed, space, tab, begins}
 use Rattle.ini_text.specs.declared.option.ParseOption.{ParseOption}
 use Rattle.ini_edit.specs.SourceLines.{after_comment, after_comments, are_comments, are_quiet}
 use Rattle.ini_edit.specs.SourceLines.{CommentState, begins_solid, blanks_at_end, comments_at_end}

@@ -1,7 +1,6 @@
 -- A text read into pieces, one item after another.
 use Rattle.std.proofs.Common.{◌≡◌, ◌≢◌, ◌∙◌, ◌<◌, ◌-◌, ℕ, Bool, true, ◌&&◌, List, [], ◌∷◌, ◌++◌, length, ap}
-use Rattle.std.proofs.Common.{sym, subst, refl}
-use Rattle.std.proofs.Common.{Option, None, Some, arith, append_assoc, append-nil, chars}
+use Rattle.std.proofs.Common.{sym, subst, refl, Option, None, Some, arith, append_assoc, append-nil, chars}
 use Rattle.std.proofs.Common.{length-append}
 use Rattle.std.proofs.lemmas.List.{append_cancel_left}
 use Rattle.std.proofs.lemmas.List.Folds.{list_all-append}
@@ -30,9 +29,8 @@ use Rattle.ini_text.proofs.LawLemmas.PieceLemmas.{last_or-append}
 use Rattle.ini.specs.Texts.{Text}
 use Rattle.ini_edit.specs.Inside.InPlace.{AreInPlace}
 use Rattle.ini_edit.specs.Inside.SourceWalks.{IsPastItem, ReachesItem, ReadsSpans}
-use Rattle.ini_edit.specs.Inside.Spans.{AreSections, BeginGeneral, IsGap, IsSpan, Span}
-use Rattle.ini_edit.specs.Inside.Spans.{opening, pair, gap, pairs_spans, section_spans, sections_spans}
-use Rattle.ini_edit.specs.Inside.Spans.{span_source}
+use Rattle.ini_edit.specs.Inside.Spans.{AreSections, BeginGeneral, IsGap, IsSpan, Span, opening, pair, gap}
+use Rattle.ini_edit.specs.Inside.Spans.{pairs_spans, section_spans, sections_spans, span_source}
 use Rattle.ini_edit.specs.Inside.Walks.{IsPastLast, IsReading, StandsWithin, Steps}
 use Rattle.ini_edit.specs.SourceReads.{ArePlacedSpans, AreRead, IsPlacedSpan}
 use Rattle.ini_edit.specs.Sources.{PairPiece, SectionPiece, joined, placed_piece, sections_text}

@@ -1,8 +1,7 @@
 -- A pair's key, and a section's name, written anew in a text in pieces.
-use Rattle.std.proofs.Common.{◌≡◌, ◌∙◌, ◌==◌, ℕ, false, true, ◌&&◌, List, [], ◌∷◌, ◌++◌, append_assoc}
-use Rattle.std.proofs.Common.{Bool, None, Option, Some, ap, append-nil, eqb-true, get_or, if◌then◌else◌, inl}
-use Rattle.std.proofs.Common.{inr, map}
-use Rattle.std.proofs.Common.{refl, set, subst, sym}
+use Rattle.std.proofs.Common.{◌≡◌, ◌∙◌, ◌==◌, ℕ, false, true, ◌&&◌, List, [], ◌∷◌, ◌++◌, append_assoc, Bool}
+use Rattle.std.proofs.Common.{None, Option, Some, ap, append-nil, eqb-true, get_or, if◌then◌else◌, inl, inr}
+use Rattle.std.proofs.Common.{map, refl, set, subst, sym}
 use Rattle.std.proofs.lemmas.Bool.{both_ways, cond-false, cond-true, false≢true}
 use Rattle.std.proofs.lemmas.List.Folds.{list_all-append}
 use Rattle.std.specs.List.{list_all}
@@ -46,8 +45,7 @@ use Rattle.ini_edit.proofs.QuietLemmas.{IsHeader, as_header}
 use Rattle.ini_edit.proofs.SectionBeginLemmas.{names_after}
 use Rattle.ini_edit.proofs.SourceReadLemmas.{sections_spans-append}
 use Rattle.ini_edit.proofs.SourceSetLemmas.{as_edit, changed_sections, closed_agrees, found_there}
-use Rattle.ini_edit.proofs.SourceSetLemmas.{last_agrees}
-use Rattle.ini_edit.proofs.SourceSetLemmas.{no_value, same_sections, sections_put}
+use Rattle.ini_edit.proofs.SourceSetLemmas.{last_agrees, no_value, same_sections, sections_put}
 use Rattle.ini_edit.proofs.SpanLemmas.{spans_local}
 pub use Rattle.ini_edit.proofs.SpanFrontLemmas.{spans_ahead}
 

@@ -1,7 +1,6 @@
 -- A pair's value set in a text in pieces.
 use Rattle.std.proofs.Common.{◌≡◌, ◌∙◌, ◌≤◌, ℕ, true, false, cond, List, [], ◌∷◌, ◌++◌, append_assoc}
-use Rattle.std.proofs.Common.{append-nil, arith, length, map, set}
-use Rattle.std.proofs.Common.{None, Option, Some, ap, refl, sym, subst}
+use Rattle.std.proofs.Common.{append-nil, arith, length, map, set, None, Option, Some, ap, refl, sym, subst}
 use Rattle.std.proofs.lemmas.Bool.{both_ways, false≢true}
 use Rattle.std.proofs.lemmas.List.{set-get_or}
 use Rattle.std.proofs.lemmas.List.Elements.{All-cons, All-nil}
@@ -23,8 +22,7 @@ use Rattle.ini.specs.Edits.{edit_section}
 use Rattle.ini.specs.Properties.{Pairs, first_value}
 use Rattle.ini.specs.Texts.{Text, is_name, is_text}
 use Rattle.ini_edit.specs.Inside.InPlace.{AreInPlace}
-use Rattle.ini_edit.specs.Inside.Spans.{AreSections, AreSpans, BeginGeneral, IsLonePair, IsPair, IsSpan}
-use Rattle.ini_edit.specs.Inside.Spans.{Span}
+use Rattle.ini_edit.specs.Inside.Spans.{AreSections, AreSpans, BeginGeneral, IsLonePair, IsPair, IsSpan, Span}
 use Rattle.ini_edit.specs.Inside.Spans.{IsValuePair, opening, pair, gap, pairs_spans, sections_spans}
 use Rattle.ini_edit.specs.Inside.Spans.{span_source}
 use Rattle.ini_edit.specs.Inside.Quotes.{IsOwnSource}
@@ -32,8 +30,7 @@ use Rattle.ini_edit.specs.Inside.SourceSteps.{HaveOwnSources, IsFirstAt}
 use Rattle.ini_edit.specs.SourceEdits.{first_changed, first_fitting, key_changed, pair_changed}
 use Rattle.ini_edit.specs.SourceEdits.{pair_in, pair_of_key, with_pairs, with_value}
 use Rattle.ini_edit.specs.Sources.{PairPiece, SectionPiece, given_pair, given_section, has_separator, joined}
-use Rattle.ini_edit.proofs.FirstLemmas.{entry_changed, first_stands}
-use Rattle.ini_edit.proofs.FirstLemmas.{lookup_first}
+use Rattle.ini_edit.proofs.FirstLemmas.{entry_changed, first_stands, lookup_first}
 use Rattle.ini_edit.proofs.InPlaceLemmas.{in_place-exchanged, in_place-split}
 use Rattle.ini_edit.proofs.QuietLemmas.{line_end_no_mark}
 use Rattle.ini_edit.proofs.SourceReadLemmas.{begin-same, pairs_spans-append, sections_spans-append}

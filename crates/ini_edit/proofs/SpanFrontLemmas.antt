@@ -19,8 +19,7 @@ use Rattle.ini_edit.specs.Inside.Spans.{span_source}
 use Rattle.ini_edit.specs.Places.{Follows}
 use Rattle.ini_edit.specs.Sources.{joined}
 use Rattle.ini_edit.proofs.AheadLemmas.{FollowsFront, NoNoteAfter, header_before, key_follows, lone_no_line}
-use Rattle.ini_edit.proofs.AheadLemmas.{nothing_before}
-use Rattle.ini_edit.proofs.AheadLemmas.{tail_before, value_before}
+use Rattle.ini_edit.proofs.AheadLemmas.{nothing_before, tail_before, value_before}
 use Rattle.ini_edit.proofs.AheadLemmas as ahead
 use Rattle.ini_edit.proofs.InPlaceLemmas.{in_place-before, in_place-join, in_place-split, joined-append}
 use Rattle.ini_edit.proofs.OwnBeforeLemmas.{note_stays, own_ahead}

@@ -22,8 +22,7 @@ use Rattle.ini_text.proofs.LawLemmas.LocalLemmas.{Agree-front, BeginAlike-after,
 use Rattle.ini_text.proofs.LawLemmas.LocalLemmas.{Element-like, KeyFront-like}
 use Rattle.ini_text.proofs.LawLemmas.OneAheadLemmas.{Alike, Alike-after, KeyFront-alike, LineEnd-alike}
 use Rattle.ini_text.proofs.LawLemmas.OneAheadLemmas.{LineTail-alike, MoreLines-alike, Value-alike}
-use Rattle.ini_text.proofs.LawLemmas.PieceLemmas.{pieces_before, pieces_items-append}
-use Rattle.ini_text.proofs.LawLemmas.PieceLemmas.{pieces_join}
+use Rattle.ini_text.proofs.LawLemmas.PieceLemmas.{pieces_before, pieces_items-append, pieces_join}
 use Rattle.ini_text.proofs.LawLemmas.PieceLemmas.{pieces_like, pieces_read, pieces_text-append}
 use Rattle.ini.specs.Documents.{document_of}
 use Rattle.ini.specs.Loading.{IsDocumentOf}
@@ -32,9 +31,8 @@ use Rattle.ini.specs.Texts.{Text}
 use Rattle.ini.proofs.PlainTextLemmas.{HasNames, items_make}
 use Rattle.ini_edit.specs.Inside.InPlace.{AreInPlace, IsLocal}
 use Rattle.ini_edit.specs.Inside.Quotes.{IsOwnSource}
-use Rattle.ini_edit.specs.Inside.Spans.{AreSections, AreSpans, BeginGeneral, IsPair, IsSpan, Span}
-use Rattle.ini_edit.specs.Inside.Spans.{opening, pair, gap, pairs_spans, section_spans, sections_spans}
-use Rattle.ini_edit.specs.Inside.Spans.{span_source}
+use Rattle.ini_edit.specs.Inside.Spans.{AreSections, AreSpans, BeginGeneral, IsPair, IsSpan, Span, opening}
+use Rattle.ini_edit.specs.Inside.Spans.{pair, gap, pairs_spans, section_spans, sections_spans, span_source}
 use Rattle.ini_edit.specs.Sources.{PairPiece, SectionPiece, given_pair, given_section, joined}
 use Rattle.ini_edit.specs.Sources.{pairs_text, sections_text}
 use Rattle.ini_edit.proofs.InPlaceLemmas.{joined-append}

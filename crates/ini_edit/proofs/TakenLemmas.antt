@@ -1,7 +1,6 @@
 -- A pair taken out of its section: the sections are those of a whole text still.
-use Rattle.std.proofs.Common.{◌≡◌, ◌≢◌, ◌∙◌, ◌==◌, ◌&&◌, ◌||◌, ◌≤◌, ℕ, Bool, true, false, cond, not, List}
-use Rattle.std.proofs.Common.{[], ◌∷◌, ◌++◌, None, Option, Some, ap, append_assoc, append-nil, arith}
-use Rattle.std.proofs.Common.{eqb-true}
+use Rattle.std.proofs.Common.{◌≡◌, ◌≢◌, ◌∙◌, ◌==◌, ◌&&◌, ◌||◌, ◌≤◌, ℕ, Bool, true, false, cond, not, List, []}
+use Rattle.std.proofs.Common.{◌∷◌, ◌++◌, None, Option, Some, ap, append_assoc, append-nil, arith, eqb-true}
 use Rattle.std.proofs.Common.{if◌then◌else◌, inl, inr, length, refl, subst, sym}
 use Rattle.std.specs.Prelude.{◌⊎◌, is_some}
 use Rattle.std.proofs.lemmas.Bool.{and_from, and_left, and_parts, and_right, both_ways, cases_Bool}
@@ -25,19 +24,15 @@ use Rattle.ini.proofs.KeepingLemmas.{texts_equal}
 use Rattle.ini.specs.Texts.{Text, is_text}
 use Rattle.ini_edit.specs.Inside.InPlace.{AreInPlace}
 use Rattle.ini_edit.specs.Inside.Spans.{AreSections, AreSpans, BeginGeneral, IsPair, IsSpan, Span, gap}
-use Rattle.ini_edit.specs.Inside.Spans.{opening}
-use Rattle.ini_edit.specs.Inside.Spans.{pair, pairs_spans, sections_spans, span_source}
+use Rattle.ini_edit.specs.Inside.Spans.{opening, pair, pairs_spans, sections_spans, span_source}
 use Rattle.ini_edit.specs.Places.{Follows}
 use Rattle.ini_edit.specs.SourceEdits.{with_pairs}
 use Rattle.ini_edit.specs.SourceEditsDelete.{after_own, begin_with_blank, empty_comment, ends_in_value}
-use Rattle.ini_edit.specs.SourceEditsDelete.{follows_value}
-use Rattle.ini_edit.specs.SourceEditsDelete.{gap_after, goes_after, left_after, line_end_after}
-use Rattle.ini_edit.specs.SourceEditsDelete.{line_end_left}
-use Rattle.ini_edit.specs.SourceEditsDelete.{lines_after, pair_taken_out, rest_put, to_line_feed, with_rest}
-use Rattle.ini_edit.specs.SourceEditsDelete.{would_be_taken}
+use Rattle.ini_edit.specs.SourceEditsDelete.{follows_value, gap_after, goes_after, left_after, line_end_after}
+use Rattle.ini_edit.specs.SourceEditsDelete.{line_end_left, lines_after, pair_taken_out, rest_put}
+use Rattle.ini_edit.specs.SourceEditsDelete.{to_line_feed, with_rest, would_be_taken}
 use Rattle.ini_edit.specs.SourceLines.{after_line_end, ends_alike, ends_in_line, is_blank_or_line_end}
-use Rattle.ini_edit.specs.SourceLines.{is_empty}
-use Rattle.ini_edit.specs.SourceLines.{line_end_at_end, quiet_lines_at_end}
+use Rattle.ini_edit.specs.SourceLines.{is_empty, line_end_at_end, quiet_lines_at_end}
 use Rattle.ini_edit.specs.SourcePlaces.{Place, gap_of, last_before_pair, text_up_to, with_after, with_end}
 use Rattle.ini_edit.specs.Sources.{PairPiece, SectionPiece, has_separator, is_multiline, joined}
 use Rattle.ini_edit.specs.Sources.{sections_text}
@@ -46,15 +41,13 @@ use Rattle.ini_edit.proofs.CommentPutLemmas.{no_end_begins, pair_follows, pair_t
 use Rattle.ini_edit.proofs.DeletedKeyLemmas.{MayBePut, comment_between, line_left}
 use Rattle.ini_edit.proofs.DeletedLinesLemmas.{alike_is, begins_here, end_of, own_of, staying}
 use Rattle.ini_edit.proofs.DeletedPairLemmas.{gap_stands, key_some, last_of_pair, lone_stands}
-use Rattle.ini_edit.proofs.DeletedPairLemmas.{multiline_to_gap}
-use Rattle.ini_edit.proofs.DeletedPairLemmas.{multiline_to_pair, put_in_lines, section_stands, taken_there}
-use Rattle.ini_edit.proofs.DeletedPairLemmas.{value_ends_line, with_lines}
+use Rattle.ini_edit.proofs.DeletedPairLemmas.{multiline_to_gap, multiline_to_pair, put_in_lines}
+use Rattle.ini_edit.proofs.DeletedPairLemmas.{section_stands, taken_there, value_ends_line, with_lines}
 use Rattle.ini_edit.proofs.InPlaceLemmas.{in_place-split, joined-append}
 use Rattle.ini_edit.proofs.HeaderLemmas.{header_bracket}
 use Rattle.ini_edit.proofs.LineCutLemmas.{OwnCut, past_nothing}
 use Rattle.ini_edit.proofs.PairEndLemmas.{gap_lone, gap_on, line_end_off, lines_lone, lines_on, own_off}
-use Rattle.ini_edit.proofs.PairEndLemmas.{own_on}
-use Rattle.ini_edit.proofs.PairEndLemmas.{rest_off}
+use Rattle.ini_edit.proofs.PairEndLemmas.{own_on, rest_off}
 use Rattle.ini_edit.proofs.PairViewLemmas.{key_front_of}
 use Rattle.ini_edit.proofs.QuietLemmas.{as_header}
 use Rattle.ini_edit.proofs.RestPutLemmas.{empty_is}

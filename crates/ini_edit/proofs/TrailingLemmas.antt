@@ -1,7 +1,6 @@
 -- Quiet lines put after the lines of a multiline value: they are its own then, and change nothing of it.
-use Rattle.std.proofs.Common.{◌≡◌, ◌≢◌, ◌∙◌, ◌≤◌, ℕ, Bool, true, false, [], ◌∷◌, ◌++◌, ap}
-use Rattle.std.proofs.Common.{◌==◌, ◌||◌, append_assoc, append-nil, arith, eqb-true, length, length-append}
-use Rattle.std.proofs.Common.{refl, subst}
+use Rattle.std.proofs.Common.{◌≡◌, ◌≢◌, ◌∙◌, ◌≤◌, ℕ, Bool, true, false, [], ◌∷◌, ◌++◌, ap, ◌==◌, ◌||◌}
+use Rattle.std.proofs.Common.{append_assoc, append-nil, arith, eqb-true, length, length-append, refl, subst}
 use Rattle.std.proofs.Common.{sym}
 use Rattle.std.proofs.lemmas.Bool.{both_ways, false_from_ne_true, false≢true}
 use Rattle.std.proofs.lemmas.List.Folds.{list_all-append}

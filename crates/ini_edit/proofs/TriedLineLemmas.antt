@@ -17,17 +17,15 @@ use Rattle.ini_text.specs.declared.error.ParseKind.{ParseKind}
 use Rattle.ini_text.specs.declared.parser.placed.Content.{Content}
 use Rattle.ini_text.specs.declared.parser.placed.Content.TheVariants as contents
 use Rattle.ini_text.specs.declared.parser.placed.PlacedElement.{PlacedElement}
-use Rattle.ini_text.specs.Grammar.CharacterKinds.{BeginsWith, BeginsWithNo, backslash, equals}
-use Rattle.ini_text.specs.Grammar.CharacterKinds.{is_blank, is_comment_mark, is_inline_white, is_separator}
-use Rattle.ini_text.specs.Grammar.CharacterKinds.{line_feed}
+use Rattle.ini_text.specs.Grammar.CharacterKinds.{BeginsWith, BeginsWithNo, backslash, equals, is_blank}
+use Rattle.ini_text.specs.Grammar.CharacterKinds.{is_comment_mark, is_inline_white, is_separator, line_feed}
 use Rattle.ini_text.specs.Grammar.Elements.{Element, Header, Pair}
 use Rattle.ini_text.specs.Grammar.EscapeSequences.{EscapeSequence}
 use Rattle.ini_text.specs.Grammar.Keys.{KeyFront}
 use Rattle.ini_text.specs.Grammar.Lines.{LineTail, Note}
 use Rattle.ini_text.specs.Grammar.Places.{ArePlaced, FollowsKey, HasValue, OwnLines, SpaceAfter, Stretches}
 use Rattle.ini_text.specs.Grammar.Places.{TrailingLines, after_key_source, ends_bare, pair_source}
-use Rattle.ini_text.specs.Grammar.Places.{separator_text}
-use Rattle.ini_text.specs.Grammar.Places.{value_source}
+use Rattle.ini_text.specs.Grammar.Places.{separator_text, value_source}
 use Rattle.ini_text.specs.Grammar.Positions.{last_or}
 use Rattle.ini_text.specs.Grammar.Strings.{Row, Str, is_endpoint, key_ends, noted_key_ends}
 use Rattle.ini_text.specs.Grammar.WhiteSpace.{end_trimmed, trimmed}

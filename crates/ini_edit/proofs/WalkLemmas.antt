@@ -1,7 +1,6 @@
 -- Walks over the elements of a text, element by element.
-use Rattle.std.proofs.Common.{◌≡◌, ◌∙◌, ◌<◌, ◌-◌, List, [], ◌++◌, length, ap, sym, subst, refl, Option}
-use Rattle.std.proofs.Common.{None, Some}
-use Rattle.std.proofs.Common.{Result, Ok, Err, arith, append_assoc, append-nil, length-append, chars}
+use Rattle.std.proofs.Common.{◌≡◌, ◌∙◌, ◌<◌, ◌-◌, List, [], ◌++◌, length, ap, sym, subst, refl, Option, None}
+use Rattle.std.proofs.Common.{Some, Result, Ok, Err, arith, append_assoc, append-nil, length-append, chars}
 use Rattle.std.proofs.Common.{MatchOption}
 use Rattle.std.specs.Cow.{cow_str_bytes}
 use Rattle.ini_text.specs.Errors.Messages.{HasMessage}

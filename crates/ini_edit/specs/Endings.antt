@@ -1,8 +1,7 @@
 -- How a text ends, and what begins an indented key.
 use Rattle.std.specs.Prelude.{◌≡◌, ℕ, true, false, ◌==◌, if◌then◌else◌, List, [], ◌∷◌, ◌++◌}
 use Rattle.std.specs.List.{list_all}
-use Rattle.ini_text.specs.Grammar.CharacterKinds.{backslash, line_feed, space, is_blank}
-use Rattle.ini_text.specs.Grammar.CharacterKinds.{BeginsWith}
+use Rattle.ini_text.specs.Grammar.CharacterKinds.{backslash, line_feed, space, is_blank, BeginsWith}
 use Rattle.ini_text.specs.Grammar.Keys.{begins_indented_key}
 use Rattle.ini_text.specs.Options.Backslashes.{begins_escape}
 use Rattle.ini_text.specs.Options.ReadOptions.{backslash_of}

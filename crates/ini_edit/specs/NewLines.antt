@@ -1,7 +1,6 @@
 -- How a new line of a text ends: as the text's own lines do.
 use Rattle.std.specs.Prelude.{[], ◌∷◌, ◌==◌, ◌&&◌, if◌then◌else◌}
-use Rattle.ini_text.specs.Grammar.CharacterKinds.{carriage_return, line_feed, is_line_feed}
-use Rattle.ini_text.specs.Grammar.CharacterKinds.{begins}
+use Rattle.ini_text.specs.Grammar.CharacterKinds.{carriage_return, line_feed, is_line_feed, begins}
 use Rattle.ini_text.specs.declared.write.option.LineSeparator.{LineSeparator}
 use Rattle.ini_text.specs.declared.write.option.LineSeparator.TheVariants.{CRLF, SystemDefault}
 use Rattle.ini_text.specs.declared.write.option.WriteOption.{WriteOption}

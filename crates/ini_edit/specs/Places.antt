@@ -1,7 +1,6 @@
 -- Where a pair stands in a text, and the text with another value in its place.
 use Rattle.std.specs.Prelude.{◌≡◌, ℕ, true, List, [], ◌∷◌, ◌++◌, Option}
-use Rattle.ini_text.specs.Grammar.CharacterKinds.{is_blank, is_line_end}
-use Rattle.ini_text.specs.Grammar.CharacterKinds.{BeginsWithNo}
+use Rattle.ini_text.specs.Grammar.CharacterKinds.{is_blank, is_line_end, BeginsWithNo}
 use Rattle.ini_text.specs.Grammar.Places.{separator_text}
 use Rattle.ini_text.specs.Grammar.Elements.{Element, Given, Pair}
 use Rattle.ini_text.specs.Grammar.Texts.{Reads}

@@ -4,8 +4,7 @@ use Rattle.std.specs.Prelude.{List, [], ◌∷◌, Option, None, Some}
 use Rattle.std.specs.Bool.{beq}
 use Rattle.std.specs.List.{best_of, count_by}
 use Rattle.std.specs.Option.{option_map, unwrap_or}
-use Rattle.ini_text.specs.Grammar.CharacterKinds.{colon, equals, space, is_blank, is_line_end}
-use Rattle.ini_text.specs.Grammar.CharacterKinds.{begins}
+use Rattle.ini_text.specs.Grammar.CharacterKinds.{colon, equals, space, is_blank, is_line_end, begins}
 use Rattle.ini.specs.Texts.{Text}
 use Rattle.ini_edit.specs.SourceLines.{blanks_at_end, is_empty}
 use Rattle.ini_edit.specs.SourcePlaces.{is_nil}

@@ -1,8 +1,7 @@
 -- New pairs in a text in pieces, in a section that is there.
 use Rattle.std.specs.Prelude.{Bool, true, false, not, ◌&&◌, ◌||◌, ◌==◌, if◌then◌else◌, ℕ, List, [], ◌∷◌}
 use Rattle.std.specs.Prelude.{◌++◌, Option, None, Some, is_none}
-use Rattle.std.specs.Option.{option_map}
-use Rattle.std.specs.Option.{option_or}
+use Rattle.std.specs.Option.{option_map, option_or}
 use Rattle.ini_text.specs.Grammar.CharacterKinds.{backslash, carriage_return, is_blank, is_comment_mark}
 use Rattle.ini_text.specs.Grammar.CharacterKinds.{is_line_end, line_feed, space}
 use Rattle.ini_text.specs.Grammar.Elements.{may_have_note}

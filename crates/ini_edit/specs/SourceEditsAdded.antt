@@ -1,9 +1,8 @@
 -- A pair added to a text in pieces, in a section that is there or in a new one; put in before a pair or
 -- after it; and a key set, wherever its pair stands. What each is refused with.
 use Rattle.std.specs.Option.{option_map}
-use Rattle.std.specs.Prelude.{◌≡◌, Bool, true, false, ℕ, List, [], ◌∷◌, ◌++◌, ◌+◌, Option, None, Some}
-use Rattle.std.specs.Prelude.{IsSome, IsSomeAnd}
-use Rattle.std.specs.Prelude.{⊤, alloc_error, length}
+use Rattle.std.specs.Prelude.{◌≡◌, Bool, true, false, ℕ, List, [], ◌∷◌, ◌++◌, ◌+◌, Option, None, Some, IsSome}
+use Rattle.std.specs.Prelude.{IsSomeAnd, ⊤, alloc_error, length}
 use Rattle.ini_text.specs.Laws.Plain.{IsPlainName}
 use Rattle.ini_text.specs.Options.WriteOptions.{line_end}
 use Rattle.ini_text.specs.declared.error.Error.TheVariants.{Memory}

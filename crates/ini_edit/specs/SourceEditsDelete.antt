@@ -1,7 +1,6 @@
 -- Pairs taken out of a text in pieces.
 use Rattle.std.specs.Prelude.{Bool, false, not, ◌&&◌, ◌||◌, if◌then◌else◌, ℕ, zero, suc, ◌-◌, List, [], ◌∷◌}
-use Rattle.std.specs.Prelude.{◌++◌}
-use Rattle.std.specs.Prelude.{Option, count_by}
+use Rattle.std.specs.Prelude.{◌++◌, Option, count_by}
 use Rattle.ini_text.specs.Grammar.CharacterKinds.{carriage_return, is_blank, is_comment_mark, is_line_end}
 use Rattle.ini_text.specs.Grammar.CharacterKinds.{is_line_feed, line_feed, semicolon, space}
 use Rattle.ini_text.specs.Grammar.Positions.{last_or}
@@ -12,13 +11,10 @@ use Rattle.ini_text.specs.declared.option.ParseOption.{ParseOption}
 use Rattle.ini.specs.Texts.{Text, is_text}
 use Rattle.ini_edit.specs.SourceEdits.{with_pairs}
 use Rattle.ini_edit.specs.SourceLines.{after_line_end, ends_alike, ends_in_line, is_blank_or_line_end}
-use Rattle.ini_edit.specs.SourceLines.{is_empty}
-use Rattle.ini_edit.specs.SourceLines.{line_end_at_end, quiet_lines_at_end}
+use Rattle.ini_edit.specs.SourceLines.{is_empty, line_end_at_end, quiet_lines_at_end}
 use Rattle.ini_edit.specs.SourcePlaces.{PairPlace, Place, edited_at, gap_of, last_before_pair}
-use Rattle.ini_edit.specs.SourcePlaces.{last_before_section}
-use Rattle.ini_edit.specs.SourcePlaces.{last_changed, pair_place, section_exchanged, section_place}
-use Rattle.ini_edit.specs.SourcePlaces.{with_after}
-use Rattle.ini_edit.specs.SourcePlaces.{with_end}
+use Rattle.ini_edit.specs.SourcePlaces.{last_before_section, last_changed, pair_place, section_exchanged}
+use Rattle.ini_edit.specs.SourcePlaces.{section_place, with_after, with_end}
 use Rattle.ini_edit.specs.Sources.{PairPiece, SectionPiece, has_separator, is_multiline}
 
 -- After a text of this last character a pair's line end may go with the pair, before these lines and this

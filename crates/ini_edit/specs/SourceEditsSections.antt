@@ -15,8 +15,7 @@ use Rattle.ini_edit.specs.SourceEdits.{with_pairs}
 use Rattle.ini_edit.specs.SourceEditsAdd.{Maker, closed}
 use Rattle.ini_edit.specs.SourceEditsDelete.{line_end_after, lines_after, rest_put}
 use Rattle.ini_edit.specs.SourceLines.{comments_at_end, dropped_key, from_last_solid, indentation_at_end}
-use Rattle.ini_edit.specs.SourceLines.{is_empty}
-use Rattle.ini_edit.specs.SourceLines.{is_one_line_end, line_end_at_end}
+use Rattle.ini_edit.specs.SourceLines.{is_empty, is_one_line_end, line_end_at_end}
 use Rattle.ini_edit.specs.SourcePlaces.{Place, edited_at, gap_put, is_nil, last_before_gap}
 use Rattle.ini_edit.specs.SourcePlaces.{last_before_section}
 use Rattle.ini_edit.specs.SourcePlaces.{last_changed, last_gap, last_place, section_place}

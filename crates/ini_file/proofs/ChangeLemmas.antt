@@ -3,7 +3,7 @@ use Rattle.std.proofs.Common.{◌≡◌, ◌∙◌, ap, refl, sym, ℕ, if◌the
 use Rattle.std.proofs.Common.{append_assoc, Option, None, Some}
 use Rattle.std.proofs.lemmas.Grind.{flat_map-append}
 use Rattle.std.proofs.lemmas.Str.{chars-nil}
-use Rattle.std.specs.Prelude.{codes}
+use Rattle.std.specs.Prelude.{codes, encode_utf8_all}
 use Rattle.std.specs.Str.{chars}
 use Rattle.ini_text.specs.Escaping.EscapedTexts.{escape, escaped}
 use Rattle.ini_text.specs.Escaping.Policies.{is_escaped}
@@ -12,6 +12,7 @@ use Rattle.ini.specs.Texts.{Text}
 use Rattle.ini_layers.specs.Differences.{SettingChange}
 use Rattle.ini_file.specs.EditLines.{edit_text, in_brackets, signed}
 use Rattle.ini_file.specs.ChangeLines.{change_text, conflict_text, escaped_part, front, told}
+use Rattle.ini_file.specs.OtherValues.{others_words}
 
 pub chars-open : chars (codes "[") ≡ codes "["
 unfolding chars
@@ -81,6 +82,14 @@ chars-theirs : chars (codes ", theirs") ≡ codes ", theirs"
 unfolding chars
 chars-theirs = refl
 
+chars-program : chars (codes "ini_file: ") ≡ codes "ini_file: "
+unfolding chars
+chars-program = refl
+
+chars-others : chars others_words ≡ others_words
+unfolding chars
+chars-others = refl
+
 -- what is told of a value, and what follows it
 of-value : (value : Text) (before shown : List ℕ) → chars before ++ escaped_part shown ≡ value
     → (after : List ℕ) → chars after ≡ after → (rest : Text)
@@ -114,6 +123,18 @@ module _ (name : Option Text) (left shown right key : List ℕ)
       ≡ change_text (chars before) name (chars key) None (Some (chars new)) (chars end)
   of-new before new end =
       rw (← is_front, chars-nil, chars-new, chars-colon) (simp (append_assoc, append-nil) refl)
+
+  abbrev others_parts : Text
+  others_parts = (escaped_part [] ++ chars (codes "ini_file: ")) ++ ((escaped_part [] ++ chars left)
+      ++ ((escaped_part shown ++ chars right) ++ ((escaped_part key ++ chars others_words) ++ [])))
+
+  of-others : others_parts ≡ codes "ini_file: " ++ (front name ++ (escaped_part key ++ others_words))
+  of-others = rw (← is_front, chars-nil, chars-program, chars-others) (simp (append_assoc, append-nil) refl)
+
+  pub others-bytes : (old new : List ℕ) → old ≡ [] → new ≡ old ++ encode_utf8_all others_parts
+      → new ≡ encode_utf8_all (codes "ini_file: " ++ (front name ++ (escaped_part key ++ others_words)))
+  others-bytes old new empty is =
+      is ∙ ap (λ x. x ++ encode_utf8_all others_parts) empty ∙ ap encode_utf8_all of-others
 
   -- what stands before the values of a conflict
   before-values : (values : Text) → (escaped_part [] ++ chars (codes "conflict: "))

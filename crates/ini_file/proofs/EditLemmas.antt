@@ -17,8 +17,7 @@ use Rattle.ini_text.specs.Escaping.Policies.{is_basic, is_escaped, is_reserved}
 use Rattle.ini.specs.Texts.{Text}
 use Rattle.ini_file.specs.EditLines.{field_before}
 use Rattle.ini_file.specs.Inside.EditReading.{IsEnd, RefusesField, character_at, coded_at, escape_at}
-use Rattle.ini_file.specs.Inside.EditReading.{is_numbered, low_digit}
-use Rattle.ini_file.specs.Inside.EditReading.{named, numbered, spelled_low}
+use Rattle.ini_file.specs.Inside.EditReading.{is_numbered, low_digit, named, numbered, spelled_low}
 use Rattle.ini_file.specs.declared.edit_reading.Stop.TheVariants.{Other}
 
 -- what is written for a character

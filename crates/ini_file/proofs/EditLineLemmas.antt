@@ -10,9 +10,8 @@ use Rattle.ini.specs.Texts.{Text}
 use Rattle.ini_layers.specs.Differences.{SettingChange}
 use Rattle.ini_file.specs.EditLines.{AreReadAs, HasNoEdit, RefusesEdits, change_read, edit_before, edit_text}
 use Rattle.ini_file.specs.EditLines.{field_before, in_brackets, signed}
-use Rattle.ini_file.specs.Inside.EditReading.{AreParts, Begins, HasParts, IsEnd, RefusesEdit}
-use Rattle.ini_file.specs.Inside.EditReading.{RefusesField, RefusesName, RefusesNext, RefusesParts}
-use Rattle.ini_file.specs.Inside.EditReading.{RefusesValue}
+use Rattle.ini_file.specs.Inside.EditReading.{AreParts, Begins, HasParts, IsEnd, RefusesEdit, RefusesField}
+use Rattle.ini_file.specs.Inside.EditReading.{RefusesName, RefusesNext, RefusesParts, RefusesValue}
 use Rattle.ini_file.specs.declared.edit_reading.EditsFault.{EditsFault}
 use Rattle.ini_file.specs.declared.edit_reading.EditsFault.TheVariants as fault
 use Rattle.ini_file.specs.declared.edit_reading.OwnedChange.{OwnedChange}

@@ -1,10 +1,8 @@
 -- Conflicts left one after another, and comments put above a pair.
-use Rattle.std.proofs.Common.{◌≡◌, ◌<◌, ◌+◌, ◌∙◌, ap, refl, subst, sym, ℕ, Bool, true, false, List, []}
-use Rattle.std.proofs.Common.{◌∷◌, ◌++◌}
-use Rattle.std.proofs.Common.{Ok, Option, None, Err, Result, Some, add-one, alloc_error, append-nil}
-use Rattle.std.proofs.Common.{append_assoc, arith}
-use Rattle.std.proofs.Common.{drop, drop-cons, get_or, length, length-take, map, take, take-append-drop}
-use Rattle.std.proofs.Common.{take-suc}
+use Rattle.std.proofs.Common.{◌≡◌, ◌<◌, ◌+◌, ◌∙◌, ap, refl, subst, sym, ℕ, Bool, true, false, List, [], ◌∷◌}
+use Rattle.std.proofs.Common.{◌++◌, Ok, Option, None, Err, Result, Some, add-one, alloc_error, append-nil}
+use Rattle.std.proofs.Common.{append_assoc, arith, drop, drop-cons, get_or, length, length-take, map, take}
+use Rattle.std.proofs.Common.{take-append-drop, take-suc}
 use Rattle.std.proofs.lemmas.List.{length-map, map-append}
 use Rattle.std.proofs.lemmas.Str.{chars-nil, scalars-chars}
 use Rattle.std.specs.Prelude.{IfErr, IfOk, MatchOption, OnOk, codes, encode_utf8_all}
@@ -23,14 +21,15 @@ use Rattle.ini_dialect.specs.CommentEdits.{StandsAbove}
 use Rattle.ini_dialect.specs.declared.rule.Lookup.{Lookup}
 use Rattle.ini_layers.specs.Differences.{SettingChange}
 use Rattle.ini_layers.specs.Merging.{SettingConflict, setting_conflict}
-use Rattle.ini_layers.specs.SourceChanges.{IsMade}
+use Rattle.ini_layers.specs.SourceChanges.{IsMadeBy}
 use Rattle.ini_layers.specs.declared.merging.Conflict.{Conflict}
 use Rattle.ini_layers.specs.declared.merging.Side.{Side}
+use Rattle.ini_layers.specs.declared.change.SettingValue.{SettingValue}
 use Rattle.ini_layers.proofs.MadeLemmas.{memory_refused}
 use Rattle.ini_file.specs.ChangeLines.{escaped_part}
 use Rattle.ini_file.specs.LeftConflicts.{AreLeft, IsLeft, IsPutAbove, MakesOurs, RefusesAbove}
-use Rattle.ini_file.specs.LeftConflicts.{RefusesFirstToLeave, RefusesOneToLeave, RefusesToLeave, RefusesUnless}
-use Rattle.ini_file.specs.LeftConflicts.{refused_before, side_comment}
+use Rattle.ini_file.specs.LeftConflicts.{RefusesFirstToLeave, RefusesOneToLeave, RefusesToLeave}
+use Rattle.ini_file.specs.LeftConflicts.{RefusesUnless, refused_before, side_comment}
 
 chars-mark-ours : chars (codes "; ours") ≡ codes "; ours"
 unfolding chars
@@ -40,12 +39,12 @@ chars-mark-theirs : chars (codes "; theirs") ≡ codes "; theirs"
 unfolding chars
 chars-mark-theirs = refl
 
-module _ (rule : Lookup) (w : WriteOption) where
+module _ (which : SettingValue) (rule : Lookup) (w : WriteOption) where
   -- what is put above a pair that is there, as the call that puts it answers
   pub put_if : (old new : Pieces) (name : Option Text) (key above comment whole : Text)
       (r : Result Bool EditError) → StandsAbove rule name key old above → whole ≡ above ++ comment
       → IfOk r (SetsCommentUnder rule name key w old new whole)
-      → OnOk r (IsPutAbove rule w name key comment old new)
+      → OnOk r (IsPutAbove which rule w name key comment old new)
   put_if old new name key above comment whole (Ok true) stands is set =
       IsPutAbove.above stands (subst (IsCommentedUnder rule name key w old new) is set)
   put_if old new name key above comment whole (Ok false) stands is set = IsPutAbove.nowhere set.1 set.0
@@ -54,7 +53,7 @@ module _ (rule : Lookup) (w : WriteOption) where
   pub refused_if : (p : Pieces) (name : Option Text) (key above comment whole : Text)
       (r : Result Bool EditError) → StandsAbove rule name key p above → whole ≡ above ++ comment
       → IfErr r (RefusesCommentUnder rule name key w p whole)
-      → IfErr r (RefusesAbove rule w name key comment p)
+      → IfErr r (RefusesAbove which rule w name key comment p)
   refused_if p name key above comment whole (Ok is_found) stands is refused = tt
   refused_if p name key above comment whole (Err refusal) stands is refused =
       RefusesAbove.at_pair stands
@@ -62,73 +61,75 @@ module _ (rule : Lookup) (w : WriteOption) where
 
   -- ours is set, as the call that sets it answers
   pub ours_made : {A : Type 0} (old new : Pieces) (c : SettingChange) (value : Text)
-      (r : Result A EditError) → c.new ≡ Some value → OnOk r (IsMade rule w c old new)
-      → OnOk r (MakesOurs rule w c old new)
+      (r : Result A EditError) → c.new ≡ Some value → OnOk r (IsMadeBy which rule w c old new)
+      → OnOk r (MakesOurs which rule w c old new)
   ours_made old new c value (Ok done) is made =
-      subst (λ v. MatchOption v (new ≡ old) (λ x. IsMade rule w c old new)) (sym is) made
+      subst (λ v. MatchOption v (new ≡ old) (λ x. IsMadeBy which rule w c old new)) (sym is) made
   ours_made old new c value (Err refusal) is made = tt
 
   -- a conflict is left
   module _ (c : SettingConflict) where
-    ours_put : (old new : Pieces) → IsPutAbove rule w c.change.name c.change.key
+    ours_put : (old new : Pieces) → IsPutAbove which rule w c.change.name c.change.key
         (side_comment (chars (codes "; ours")) c.change.new) old new
-        → IsPutAbove rule w c.change.name c.change.key (side_comment (codes "; ours") c.change.new) old new
-    ours_put old new = subst (λ side. IsPutAbove rule w c.change.name c.change.key
+        → IsPutAbove which rule w c.change.name c.change.key
+        (side_comment (codes "; ours") c.change.new) old new
+    ours_put old new = subst (λ side. IsPutAbove which rule w c.change.name c.change.key
         (side_comment side c.change.new) old new) chars-mark-ours
 
-    pub all_left : (old made half new : Pieces) → MakesOurs rule w c.change old made
-        → IsPutAbove rule w c.change.name c.change.key
+    pub all_left : (old made half new : Pieces) → MakesOurs which rule w c.change old made
+        → IsPutAbove which rule w c.change.name c.change.key
         (side_comment (chars (codes "; ours")) c.change.new) made half
-        → IsPutAbove rule w c.change.name c.change.key
+        → IsPutAbove which rule w c.change.name c.change.key
         (side_comment (chars (codes "; theirs")) c.theirs) half new
-        → IsLeft rule w c old new
+        → IsLeft which rule w c old new
     all_left old made half new is_made ours theirs = record {
       made = made;
       half = half;
       is_made = is_made;
       ours = ours_put made half ours;
-      theirs = subst (λ side. IsPutAbove rule w c.change.name c.change.key
+      theirs = subst (λ side. IsPutAbove which rule w c.change.name c.change.key
           (side_comment side c.theirs) half new) chars-mark-theirs theirs;
     }
 
-    pub ours_refused : (old made : Pieces) {e : EditError} → MakesOurs rule w c.change old made
-        → RefusesAbove rule w c.change.name c.change.key
+    pub ours_refused : (old made : Pieces) {e : EditError} → MakesOurs which rule w c.change old made
+        → RefusesAbove which rule w c.change.name c.change.key
         (side_comment (chars (codes "; ours")) c.change.new) made e
-        → RefusesToLeave rule w c old e
+        → RefusesToLeave which rule w c old e
     ours_refused old made {e} is_made refused =
-        RefusesToLeave.ours made is_made (subst (λ side. RefusesAbove rule w c.change.name c.change.key
+        RefusesToLeave.ours made is_made (subst (λ side. RefusesAbove which rule w c.change.name c.change.key
         (side_comment side c.change.new) made e) chars-mark-ours refused)
 
-    pub theirs_refused : (old made half : Pieces) {e : EditError} → MakesOurs rule w c.change old made
-        → IsPutAbove rule w c.change.name c.change.key
+    pub theirs_refused : (old made half : Pieces) {e : EditError} → MakesOurs which rule w c.change old made
+        → IsPutAbove which rule w c.change.name c.change.key
         (side_comment (chars (codes "; ours")) c.change.new) made half
-        → RefusesAbove rule w c.change.name c.change.key
+        → RefusesAbove which rule w c.change.name c.change.key
         (side_comment (chars (codes "; theirs")) c.theirs) half e
-        → RefusesToLeave rule w c old e
+        → RefusesToLeave which rule w c old e
     theirs_refused old made half {e} is_made ours refused =
         RefusesToLeave.theirs made half is_made (ours_put made half ours)
-        (subst (λ side. RefusesAbove rule w c.change.name c.change.key (side_comment side c.theirs) half e)
+        (subst (λ side. RefusesAbove which rule w c.change.name c.change.key
+        (side_comment side c.theirs) half e)
         chars-mark-theirs refused)
 
   -- one conflict more is left
   pub one_left : {old mid new : Pieces} (conflicts : List Conflict) (i : ℕ) (d : Conflict)
-      → i < length conflicts → AreLeft rule w old (map setting_conflict (take i conflicts)) mid
-      → IsLeft rule w (setting_conflict (get_or conflicts i d)) mid new
-      → AreLeft rule w old (map setting_conflict (take (i + 1) conflicts)) new
+      → i < length conflicts → AreLeft which rule w old (map setting_conflict (take i conflicts)) mid
+      → IsLeft which rule w (setting_conflict (get_or conflicts i d)) mid new
+      → AreLeft which rule w old (map setting_conflict (take (i + 1) conflicts)) new
   one_left {old} {mid} {new} conflicts i d within left is =
       let c = setting_conflict (get_or conflicts i d) in
       let taken : map setting_conflict (take (i + 1) conflicts)
       ≡ map setting_conflict (take i conflicts) ++ c ∷ [] =
       rw (add-one, take-suc conflicts i d within)
       (map-append setting_conflict (take i conflicts) (get_or conflicts i d ∷ [])) in
-      subst (λ cs. AreLeft rule w old cs new) (sym taken) (AreLeft.then c left is)
+      subst (λ cs. AreLeft which rule w old cs new) (sym taken) (AreLeft.then c left is)
 
   -- of the conflicts the one at the index is refused
   pub one_not_left : {old mid : Pieces} (conflicts : List Conflict) (i : ℕ) (d : Conflict)
       (refusal : EditError) → i < length conflicts
-      → AreLeft rule w old (map setting_conflict (take i conflicts)) mid
-      → RefusesToLeave rule w (setting_conflict (get_or conflicts i d)) mid refusal
-      → RefusesOneToLeave rule w old (map setting_conflict conflicts)
+      → AreLeft which rule w old (map setting_conflict (take i conflicts)) mid
+      → RefusesToLeave which rule w (setting_conflict (get_or conflicts i d)) mid refusal
+      → RefusesOneToLeave which rule w old (map setting_conflict conflicts)
       (record { index = i; refusal = refusal })
   one_not_left {old} {mid} conflicts i d refusal within left refused = record {
     before = map setting_conflict (take i conflicts);
@@ -143,7 +144,8 @@ module _ (rule : Lookup) (w : WriteOption) where
 
   -- memory is refused before any is left
   pub none_left : (conflicts : List SettingConflict) (p : Pieces)
-      → RefusesOneToLeave rule w p conflicts (record { index = 0; refusal = TextError (Memory alloc_error) })
+      → RefusesOneToLeave which rule w p conflicts
+      (record { index = 0; refusal = TextError (Memory alloc_error) })
   none_left conflicts p = record {
     before = [];
     following = conflicts;
@@ -154,16 +156,17 @@ module _ (rule : Lookup) (w : WriteOption) where
     is_refused = of conflicts;
   }
     where
-      of : (cs : List SettingConflict) → RefusesFirstToLeave rule w cs p (TextError (Memory alloc_error))
+      of : (cs : List SettingConflict)
+          → RefusesFirstToLeave which rule w cs p (TextError (Memory alloc_error))
       of [] = refl
       of (c ∷ cs) =
-          RefusesToLeave.value (memory_refused rule w c.change.name c.change.key c.change.new p)
+          RefusesToLeave.value (memory_refused which rule w c.change.name c.change.key c.change.new p)
 
   pub refused_early : (side : Option Side) (conflicts : List SettingConflict) (p : Pieces)
-      (refused : RefusedEdit) → refused ≡ refused_before → RefusesUnless rule w side p conflicts refused
+      (refused : RefusedEdit) → refused ≡ refused_before → RefusesUnless which rule w side p conflicts refused
   refused_early (Some s) conflicts p refused is = is
   refused_early None conflicts p refused is =
-      subst (RefusesOneToLeave rule w p conflicts) (sym is) (none_left conflicts p)
+      subst (RefusesOneToLeave which rule w p conflicts) (sym is) (none_left conflicts p)
 
 -- the parts of a comment
 module _ (above side has value : List ℕ) where

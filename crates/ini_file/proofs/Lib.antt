@@ -6,6 +6,7 @@ pub mod EditLineLemmas
 pub mod FormatLemmas
 pub mod FurtherLemmas
 pub mod LeftLemmas
+pub mod LeftValueLemmas
 pub mod LineLemmas
 pub mod ListedLemmas
 pub mod MergeLemmas
@@ -15,6 +16,7 @@ pub mod PlainDifferenceLemmas
 pub mod RefusedLemmas
 pub mod RuledMergeLemmas
 pub mod ShareLemmas
+pub mod SideEndLemmas
 pub mod SplitLemmas
 pub mod SuggestLemmas
 pub mod TypedGetLemmas

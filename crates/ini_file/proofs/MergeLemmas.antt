@@ -1,6 +1,6 @@
 -- Files that have a document each, one file on.
-use Rattle.std.proofs.Common.{◌≡◌, ◌<◌, ◌+◌, ◌∙◌, ℕ, List, [], ◌∷◌, ◌++◌, length, suc, subst, sym, ap}
-use Rattle.std.proofs.Common.{arith, add-one, drop, drop-cons, get_or, length-take, take, take-append-drop, take-suc}
+use Rattle.std.proofs.Common.{◌≡◌, ◌<◌, ◌+◌, ◌∙◌, ℕ, List, [], ◌∷◌, ◌++◌, length, suc, subst, sym, ap, arith}
+use Rattle.std.proofs.Common.{add-one, drop, drop-cons, get_or, length-take, take, take-append-drop, take-suc}
 use Rattle.std.proofs.lemmas.List.{map-append, length-map}
 use Rattle.std.specs.declared.alloc.Global.{Global}
 use Rattle.std.specs.declared.vec.Vec.{Vec}

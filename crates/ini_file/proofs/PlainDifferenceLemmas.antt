@@ -16,11 +16,12 @@ use Rattle.ini.specs.Edits.{edit_section}
 use Rattle.ini.specs.Properties.{Pairs, distinct, first_value, inserted}
 use Rattle.ini.specs.Texts.{Text, is_name}
 use Rattle.ini.proofs.EditLemmas.{edit_section-last, edit_section-there, set_section-same}
-use Rattle.ini_dialect.specs.Flattened.{flattened, told_name, with_told, with_told_section}
+use Rattle.ini_dialect.specs.Flattened.{flattened, put_by, told_name, with_told, with_told_section}
 use Rattle.ini_dialect.specs.Inside.{kept}
 use Rattle.ini_dialect.specs.Rules.{default_lookup, is_own}
 use Rattle.ini_dialect.specs.declared.rule.CaseRule.TheVariants.{Kept}
 use Rattle.ini_dialect.specs.declared.rule.Lookup.{Lookup}
+use Rattle.ini_dialect.specs.declared.rule.ValueRule.TheVariants.{First as FirstValue}
 use Rattle.ini_dialect.proofs.DefaultLemmas.{default-answers}
 use Rattle.ini_dialect.proofs.FlattenedLemmas.{flat-answers}
 use Rattle.ini_dialect.proofs.KeyLemmas.{kept-distinct}
@@ -121,7 +122,7 @@ names_equiv = options_equiv nat_list_eq_equiv
 
 -- so the default rule puts the pairs of a section, and sections
 abbrev flat_pairs : Pairs → Pairs
-flat_pairs ps = fold (with_told default_lookup) [] ps
+flat_pairs ps = fold (with_told (put_by FirstValue) default_lookup) [] ps
 
 inserted-last : (key value : Text) (ps : Pairs) → first_value key ps ≡ None
     → inserted key value ps ≡ ps ++ (key, value) ∷ []
@@ -129,11 +130,11 @@ inserted-last key value [] none = refl
 inserted-last key value (p ∷ ps) none = grind (arith, inserted-last key value ps, none)
 
 told-put : (ps : Pairs) (p : Text × Text)
-    → with_told default_lookup ps p ≡ put_new nat_list_eq_equiv (λ v. v) ps p
+    → with_told (put_by FirstValue) default_lookup ps p ≡ put_new nat_list_eq_equiv (λ v. v) ps p
 told-put ps p = at (first_value p.0 ps) refl
   where
     at : (o : Option Text) → first_value p.0 ps ≡ o
-        → with_told default_lookup ps p ≡ put_new nat_list_eq_equiv (λ v. v) ps p
+        → with_told (put_by FirstValue) default_lookup ps p ≡ put_new nat_list_eq_equiv (λ v. v) ps p
     at None is = rw is (inserted-last p.0 p.1 ps is)
     at (Some v) is = rw is refl
 
@@ -142,7 +143,7 @@ told_kept None = refl
 told_kept (Some t) = refl
 
 section-put : (flat : Document) (s : Option Text × Pairs)
-    → with_told_section default_lookup flat s ≡ put_new names_equiv flat_pairs flat s
+    → with_told_section (put_by FirstValue) default_lookup flat s ≡ put_new names_equiv flat_pairs flat s
 section-put flat s =
     ap (λ n. edit_section n (λ ps. ps) ((n, flat_pairs s.1) ∷ []) flat) (told_kept s.0)
     ∙ at (first_section s.0 flat) refl

@@ -1,6 +1,7 @@
 -- Settings made under a rule, one setting on.
-use Rattle.std.proofs.Common.{◌≡◌, ◌<◌, ◌+◌, ◌∙◌, ℕ, List, [], ◌∷◌, ◌++◌, length, suc, subst, sym, ap, map, refl}
-use Rattle.std.proofs.Common.{add-one, arith, drop, drop-cons, get_or, length-take, take, take-append-drop, take-suc}
+use Rattle.std.proofs.Common.{◌≡◌, ◌<◌, ◌+◌, ◌∙◌, ℕ, List, [], ◌∷◌, ◌++◌, length, suc, subst, sym, ap, map}
+use Rattle.std.proofs.Common.{refl, add-one, arith, drop, drop-cons, get_or, length-take, take}
+use Rattle.std.proofs.Common.{take-append-drop, take-suc}
 use Rattle.std.proofs.lemmas.List.{get_or_default, length-map, map-append}
 use Rattle.ini_text.specs.declared.write.option.WriteOption.{WriteOption}
 use Rattle.ini_edit.specs.Editings.{Editing, Set, SetExisting, Add, Delete, RenameKey, DeleteSection}

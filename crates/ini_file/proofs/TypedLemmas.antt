@@ -1,9 +1,7 @@
 -- What values say, one value on.
 use Rattle.std.proofs.Common.{◌≡◌, ◌<◌, ◌≤◌, ◌+◌, ◌-◌, ◌*◌, ◌/◌, ◌%◌, ◌∙◌, ℕ, List, [], ◌∷◌, ◌++◌, length}
-use Rattle.std.proofs.Common.{subst, suc}
-use Rattle.std.proofs.Common.{sym, ap, Bor, Option}
-use Rattle.std.proofs.Common.{append_assoc, arith, add-one, drop, drop-cons, get_or, length-take, take}
-use Rattle.std.proofs.Common.{take-append-drop, take-suc, take_all}
+use Rattle.std.proofs.Common.{subst, suc, sym, ap, Bor, Option, append_assoc, arith, add-one, drop, drop-cons}
+use Rattle.std.proofs.Common.{get_or, length-take, take, take-append-drop, take-suc, take_all}
 use Rattle.std.proofs.lemmas.List.{map-append, length-map}
 use Rattle.ini_words.specs.Words.{Word}
 use Rattle.ini_file.specs.Order.{words_of}

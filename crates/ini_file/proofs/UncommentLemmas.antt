@@ -1,7 +1,7 @@
 -- The walk to the first comment that holds a pair of a key.
 use Rattle.std.proofs.Common.{◌≡◌, ◌∙◌, Bool, List, [], ◌∷◌, ◌++◌, Option, None, Some, ap, append_assoc, refl}
-use Rattle.std.proofs.Common.{◌<◌, ◌≤◌, ◌≢◌, ◌+◌, ◌&&◌, ℕ, suc, String, ap₂, chars, drop, false, get_or, length}
-use Rattle.std.proofs.Common.{map, subst, sym, true}
+use Rattle.std.proofs.Common.{◌<◌, ◌≤◌, ◌≢◌, ◌+◌, ◌&&◌, ℕ, suc, String, ap₂, chars, drop, false, get_or}
+use Rattle.std.proofs.Common.{length, map, subst, sym, true}
 use Rattle.std.specs.Bool.{Decides}
 use Rattle.std.specs.Cmp.Lexicographic.{pointwise}
 use Rattle.std.proofs.lemmas.List.{drop_all}

@@ -7,7 +7,7 @@ use Rattle.ini_text.specs.declared.write.option.WriteOption.{WriteOption}
 use Rattle.ini.specs.Loading.{IsStopOf, IsTextWith}
 use Rattle.ini.specs.Texts.{Text}
 use Rattle.ini_layers.specs.Differences.{SettingChange}
-use Rattle.ini_layers.specs.SourceChanges.{AreMade, RefusesOne}
+use Rattle.ini_layers.specs.SourceChanges.{AreMadeBy, RefusesOneBy}
 use Rattle.ini_edit.specs.Sources.{Pieces}
 use Rattle.ini_edit.specs.declared.edit_list.RefusedEdit.{RefusedEdit}
 use Rattle.ini_file.specs.Bytes.{byte_order_mark_of}
@@ -33,7 +33,7 @@ module _ (r : RuledBy) (changes : List SettingChange) (T : Text) where
     pub are_old : AreOfText r.options.reading T old
     pub option : WriteOption
     pub is_option : IsWriting r.options (Some r.separator) option
-    pub are_made : AreMade r.rule option old changes new
+    pub are_made : AreMadeBy r.which r.rule option old changes new
 
   -- the bytes after the mark
   pub record IsApplied (byte_order_mark bytes : List ℕ) : Type 0 where
@@ -55,7 +55,7 @@ module _ (r : RuledBy) (changes : List SettingChange) (T : Text) where
     pub are_old : AreOfText r.options.reading T old
     pub option : WriteOption
     pub is_option : IsWriting r.options (Some r.separator) option
-    pub is_refused : RefusesOne r.rule option old changes refused
+    pub is_refused : RefusesOneBy r.which r.rule option old changes refused
 
 -- how the application of changes to a text after a mark ends
 abbrev pub EndsOnText : RuledBy → List SettingChange → List ℕ → Text → ApplyEnd → Type 0

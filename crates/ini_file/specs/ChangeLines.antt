@@ -1,6 +1,6 @@
 -- What is written of a change of a setting, and of a conflict: a line, with the basic escapes.
-use Rattle.std.specs.Prelude.{ℕ, Bool, true, false, List, [], ◌++◌, Option, None, Some, chars, codes}
-use Rattle.std.specs.Prelude.{encode_utf8_all}
+use Rattle.std.specs.Prelude.{ℕ, Bool, true, false, ◌&&◌, if◌then◌else◌, List, [], ◌++◌, Option, None, Some}
+use Rattle.std.specs.Prelude.{chars, codes, encode_utf8_all, is_some}
 use Rattle.ini_text.specs.Escaping.EscapedTexts.{escaped}
 use Rattle.ini_text.specs.declared.write.policy.EscapePolicy.TheVariants.{Basics}
 use Rattle.ini.specs.Texts.{Text}
@@ -44,6 +44,14 @@ color_of None None = []
 abbrev pub change_line : (is_colored : Bool) → SettingChange → List ℕ
 change_line true c = words_between (color_of c.old c.new) c (codes "\u{1b}[m\n")
 change_line false c = words_between [] c (codes "\n")
+
+abbrev pub comment_words : (is_colored : Bool) → SettingChange → List ℕ
+comment_words true c = words_between (codes "\u{1b}[33mcomment of ") c (codes "\u{1b}[m\n")
+comment_words false c = words_between (codes "comment of ") c (codes "\n")
+
+-- of a change of a comment: a line where both documents have its setting
+abbrev pub comment_line : (is_colored : Bool) → SettingChange → List ℕ
+comment_line is_colored c = if is_some c.old && is_some c.new then comment_words is_colored c else []
 
 -- what is told of a value that may be there
 abbrev pub told : Option Text → Text

@@ -1,7 +1,6 @@
 -- Which words after the command are options, what they choose, and where the words after them begin.
 use Rattle.std.specs.Prelude.{Bool, true, false, not, ◌&&◌, ◌||◌, ◌==◌, if◌then◌else◌, nat_eq, nat_lt}
-use Rattle.std.specs.Prelude.{count_by}
-use Rattle.std.specs.Prelude.{List, [], ◌∷◌, codes, length, map, Option, None, Some, is_some}
+use Rattle.std.specs.Prelude.{count_by, List, [], ◌∷◌, codes, length, map, Option, None, Some, is_some}
 use Rattle.std.specs.Prelude.{option_and_then, String, string_bytes}
 use Rattle.std.specs.Borrow.{Bor}
 use Rattle.std.specs.Char.{is_ascii_digit}
@@ -9,6 +8,8 @@ use Rattle.std.specs.List.{starts_with}
 use Rattle.std.specs.Option.{option_map, option_map_or}
 use Rattle.std.specs.Str.{bytes_eq}
 use Rattle.std.specs.declared.alloc.Global.{Global}
+use Rattle.ini_layers.specs.declared.change.SettingValue.{SettingValue}
+use Rattle.ini_layers.specs.declared.change.SettingValue.TheVariants.{Counting, List as WholeList}
 use Rattle.ini_layers.specs.declared.merging.Side.TheVariants.{Ours, Theirs}
 use Rattle.ini_words.specs.Words.{Word}
 use Rattle.ini_file.specs.Manners.{has_manner, no_manner, takes_name, with_name, writes_form}
@@ -48,6 +49,8 @@ no_switch = record {
   check = false;
   reverse = false;
   align = false;
+  lists = false;
+  comments = false;
 }
 
 abbrev pub no_choice : Chosen
@@ -133,12 +136,28 @@ takes_manner command c =
     && (not (is_some c.manner.color) || bytes_eq command (codes "diff"))
     && takes_form command c c.manner.form
 
+-- what a setting's value is
+abbrev pub setting_value : Switches → SettingValue
+setting_value s = if s.lists then WholeList else Counting
+
+-- whether the command compares files, setting by setting, or makes the changes between them
+abbrev pub compares : Word → Bool
+compares command = bytes_eq command (codes "diff") || bytes_eq command (codes "apply")
+    || bytes_eq command (codes "merge3")
+
+-- whether the command takes the choices that are about what is compared; comments are told in no form
+abbrev pub takes_settings : Word → Chosen → Bool
+takes_settings command c =
+    (not c.switches.lists || compares command)
+    && (not c.switches.comments || (bytes_eq command (codes "diff") && not (is_some c.manner.form)))
+
 -- whether the command takes the choices that are about the text that it makes
 abbrev pub takes_of_texts : Word → Chosen → Bool
 takes_of_texts command c =
     (not c.switches.dry_run || not (answers command))
     && (not (is_some c.switches.side) || bytes_eq command (codes "merge3"))
     && (not c.switches.reverse || bytes_eq command (codes "apply"))
+    && takes_settings command c
     && takes_manner command c
 
 -- whether the command takes the choices that are about a layout
@@ -189,6 +208,8 @@ with_switch word s =
     else if bytes_eq word (codes "--check") then Some (record s { check = true })
     else if bytes_eq word (codes "--reverse") then Some (record s { reverse = true })
     else if bytes_eq word (codes "--align") then Some (record s { align = true })
+    else if bytes_eq word (codes "--lists") then Some (record s { lists = true })
+    else if bytes_eq word (codes "--comments") then Some (record s { comments = true })
     else None
 
 -- no word begins with `--`

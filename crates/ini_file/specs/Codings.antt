@@ -1,7 +1,6 @@
 -- How the bytes of a file are those of its text.
 use Rattle.std.specs.Prelude.{◌≡◌, ◌-◌, ◌&&◌, ◌==◌, ℕ, Bool, true, false, if◌then◌else◌, List, [], ◌++◌}
-use Rattle.std.specs.Prelude.{chars}
-use Rattle.std.specs.Prelude.{Option, None, Some, Ok, Err, Result, ⊤, String, string_bytes, unwrap_or}
+use Rattle.std.specs.Prelude.{chars, Option, None, Some, Ok, Err, Result, ⊤, String, string_bytes, unwrap_or}
 use Rattle.std.specs.declared.alloc.Global.{Global}
 use Rattle.std.specs.declared.vec.Vec.{Vec}
 use Rattle.ini_text.specs.Parsing.ByteOrderMarks.{unmarked}

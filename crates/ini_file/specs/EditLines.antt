@@ -1,7 +1,6 @@
 -- Changes in the form that `apply` reads: a line each, of four texts with the basic escapes and tabs between.
 use Rattle.std.specs.Prelude.{◌≡◌, ℕ, ◌+◌, List, [], ◌∷◌, ◌++◌, ⊤, codes, encode_utf8_all, flat_map, length}
-use Rattle.std.specs.Prelude.{map}
-use Rattle.std.specs.Prelude.{Option, None, Some, Result, Ok, Err}
+use Rattle.std.specs.Prelude.{map, Option, None, Some, Result, Ok, Err}
 use Rattle.std.specs.declared.alloc.Global.{Global}
 use Rattle.std.specs.declared.vec.Vec.{Vec}
 use Rattle.ini_text.specs.Escaping.EscapedTexts.{escaped}

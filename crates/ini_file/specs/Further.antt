@@ -1,8 +1,7 @@
 -- Edits of a text that are none of the list of `ini_edit`: what each makes of a text, and what it is refused
 -- with.
 use Rattle.std.specs.Prelude.{◌≡◌, ◌==◌, ◌&&◌, ◌⊎◌, Bool, true, false, ℕ, List, [], ◌++◌, Option, None, Some}
-use Rattle.std.specs.Prelude.{⊤}
-use Rattle.std.specs.Prelude.{chars}
+use Rattle.std.specs.Prelude.{⊤, chars}
 use Rattle.std.specs.Str.{IsUtf8}
 use Rattle.ini_text.specs.Parsing.ByteOrderMarks.{has_byte_order_mark}
 use Rattle.ini_text.specs.declared.error.Error.TheVariants.{Memory}

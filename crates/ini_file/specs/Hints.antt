@@ -5,8 +5,7 @@ use Rattle.ini.specs.Texts.{Text}
 use Rattle.ini_check.specs.Warnings.{AreWarningsOf}
 use Rattle.ini_check.specs.declared.warning.Trap.{Trap}
 use Rattle.ini_check.specs.declared.warning.Trap.TheVariants.{CommentRunsOn, DroppedLine, HeaderInValue}
-use Rattle.ini_check.specs.declared.warning.Trap.TheVariants.{JoinedLine, LoneCr, MarkBeginsKey}
-use Rattle.ini_check.specs.declared.warning.Trap.TheVariants.{PairInValue}
+use Rattle.ini_check.specs.declared.warning.Trap.TheVariants.{JoinedLine, LoneCr, MarkBeginsKey, PairInValue}
 use Rattle.ini_check.specs.declared.warning.Trap.TheVariants.{RunsOn, UnclosedBracket, UnclosedQuote}
 use Rattle.ini_check.specs.declared.warning.Warning.{Warning}
 

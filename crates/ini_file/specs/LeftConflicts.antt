@@ -16,7 +16,8 @@ use Rattle.ini_dialect.specs.Lookups.{value_under}
 use Rattle.ini_dialect.specs.declared.rule.Lookup.{Lookup}
 use Rattle.ini_layers.specs.Differences.{SettingChange}
 use Rattle.ini_layers.specs.Merging.{SettingConflict}
-use Rattle.ini_layers.specs.SourceChanges.{IsMade, RefusesValue}
+use Rattle.ini_layers.specs.SourceChanges.{IsMadeBy, RefusesValueBy}
+use Rattle.ini_layers.specs.declared.change.SettingValue.{SettingValue}
 use Rattle.ini_layers.specs.declared.merging.Side.{Side}
 
 -- the comment that tells a side's value on one line, with the basic escapes
@@ -28,10 +29,10 @@ side_comment side (Some value) = side ++ (codes ": " ++ escaped Basics value)
 abbrev pub refused_before : RefusedEdit
 refused_before = record { index = 0; refusal = TextError (Memory alloc_error) }
 
-module _ (rule : Lookup) (w : WriteOption) where
+module _ (which : SettingValue) (rule : Lookup) (w : WriteOption) where
   -- ours stands where it has a value; else all stays
   abbrev pub MakesOurs : SettingChange → (old new : Pieces) → Type 0
-  MakesOurs c old new = MatchOption c.new (new ≡ old) (λ value. IsMade rule w c old new)
+  MakesOurs c old new = MatchOption c.new (new ≡ old) (λ value. IsMadeBy which rule w c old new)
 
   -- The comment stands directly above the pair of the key that counts, after those that stood there. Where
   -- there is no such pair, all stays.
@@ -62,7 +63,7 @@ module _ (rule : Lookup) (w : WriteOption) where
 
   -- what leaving a conflict is refused with: at its value, or at one of the comments
   pub data RefusesToLeave (c : SettingConflict) (old : Pieces) : EditError → Type 0 where
-    value : {e : EditError} → RefusesValue rule w c.change.name c.change.key c.change.new old e
+    value : {e : EditError} → RefusesValueBy which rule w c.change.name c.change.key c.change.new old e
         → RefusesToLeave c old e
     ours : (made : Pieces) {e : EditError} → MakesOurs c.change old made
         → RefusesAbove c.change.name c.change.key (side_comment (codes "; ours") c.change.new) made e

@@ -31,6 +31,7 @@ pub mod Manners
 pub mod Merges
 pub mod Order
 pub mod Origins
+pub mod OtherValues
 pub mod Outputs
 pub mod Places
 pub mod Reasons

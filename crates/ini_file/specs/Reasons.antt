@@ -3,8 +3,7 @@ use Rattle.std.specs.Prelude.{◌==◌, ◌&&◌, true, false, not, if◌then◌
 use Rattle.std.specs.List.{list_any}
 use Rattle.ini_text.specs.Escaping.Policies.{is_escaped}
 use Rattle.ini_text.specs.Grammar.CharacterKinds.{backslash, close_bracket, open_bracket, is_comment_mark}
-use Rattle.ini_text.specs.Grammar.CharacterKinds.{is_line_end, is_quote_mark, is_separator}
-use Rattle.ini_text.specs.Grammar.CharacterKinds.{begins}
+use Rattle.ini_text.specs.Grammar.CharacterKinds.{is_line_end, is_quote_mark, is_separator, begins}
 use Rattle.ini_text.specs.Inside.PlainTests.{escapes_nothing, is_trimmed}
 use Rattle.ini_text.specs.Laws.Plain.{has_unread_letter}
 use Rattle.ini_text.specs.declared.option.ParseOption.{ParseOption}

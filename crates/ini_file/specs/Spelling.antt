@@ -25,8 +25,8 @@ kind_of name =
     || bytes_eq name (codes "--verbose") || bytes_eq name (codes "--fix")
     || bytes_eq name (codes "--suggest") || bytes_eq name (codes "--check")
     || bytes_eq name (codes "--ours") || bytes_eq name (codes "--theirs")
-    || bytes_eq name (codes "--reverse")
-    || bytes_eq name (codes "--align") then Some Choice
+    || bytes_eq name (codes "--reverse") || bytes_eq name (codes "--align")
+    || bytes_eq name (codes "--lists") || bytes_eq name (codes "--comments") then Some Choice
     else if bytes_eq name (codes "--output") || bytes_eq name (codes "--default")
     || bytes_eq name (codes "--separator") || bytes_eq name (codes "--wait")
     || bytes_eq name (codes "--format") || bytes_eq name (codes "--allow")

@@ -1,6 +1,7 @@
 -- How a three-way merge of files ends, and its exit status.
-use Rattle.std.specs.Prelude.{◌≡◌, ◌==◌, ℕ, false, true, if◌then◌else◌, List, [], ◌++◌, Option, Some, ⊤}
-use Rattle.std.specs.Prelude.{chars, flat_map, unwrap_or, vec_len}
+use Rattle.std.specs.Prelude.{◌≡◌, ◌==◌, ℕ, false, true, if◌then◌else◌, List, [], ◌++◌, Option, None, Some}
+use Rattle.std.specs.Prelude.{⊤, chars, flat_map, unwrap_or, vec_len}
+use Rattle.std.specs.Option.{option_or}
 use Rattle.std.specs.Str.{IsUtf8}
 use Rattle.ini_text.specs.Parsing.ByteOrderMarks.{has_byte_order_mark, without_byte_order_mark}
 use Rattle.ini_text.specs.declared.error.Error.{Error}
@@ -10,8 +11,11 @@ use Rattle.ini_text.specs.declared.write.option.WriteOption.{WriteOption}
 use Rattle.ini.specs.Documents.{Document}
 use Rattle.ini.specs.Loading.{IsDocumentOf, IsStopOf, IsTextWith}
 use Rattle.ini.specs.Texts.{Text}
-use Rattle.ini_layers.specs.Merging.{IsMerged, conflicts_under, taken_under}
-use Rattle.ini_layers.specs.SourceChanges.{AreMade, RefusesOne}
+use Rattle.ini_dialect.specs.declared.rule.Lookup.{Lookup}
+use Rattle.ini_layers.specs.Merging.{conflicts_by, is_conflict, merged_value, taken_by}
+use Rattle.ini_layers.specs.Settings.{value_by}
+use Rattle.ini_layers.specs.SourceChanges.{AreMadeBy, RefusesOneBy}
+use Rattle.ini_layers.specs.declared.change.SettingValue.{SettingValue}
 use Rattle.ini_layers.specs.declared.merging.Side.{Side}
 use Rattle.ini_layers.specs.declared.merging.Side.TheVariants.{Theirs as TheirSide}
 use Rattle.ini_edit.specs.SourceReads.{AreRead}
@@ -55,6 +59,20 @@ pub record GetsMarkWith (byte_order_mark : List ℕ) (p : Pieces) : Type 0 where
 abbrev pub side_below : Option Side → Side
 side_below side = unwrap_or side TheirSide
 
+-- What a setting has then: the merged value; without a side, of one in conflict that of ours where it has one,
+-- else that of theirs.
+abbrev pub three_way_value : Option Side → (base ours theirs : Option Text) → Option Text
+three_way_value (Some side) base ours theirs = merged_value side base ours theirs
+three_way_value None base ours theirs =
+    if is_conflict base ours theirs then option_or ours theirs else merged_value TheirSide base ours theirs
+
+-- every setting has that under the rule
+pub record HasThreeWayValues (which : SettingValue) (rule : Lookup) (side : Option Side)
+    (base ours theirs new : Document) : Type 0 where
+  pub each : (name : Option Text) (key : Text) → value_by which rule name key new
+      ≡ three_way_value side (value_by which rule name key base) (value_by which rule name key ours)
+      (value_by which rule name key theirs)
+
 module _ (r : RuledBy) (side : Option Side) (base ours : Document) (T : Text) where
   -- Theirs, which has the text T, with the changes of ours. The conflicts are left in it unless a side is
   -- chosen.
@@ -62,12 +80,12 @@ module _ (r : RuledBy) (side : Option Side) (base ours : Document) (T : Text) wh
     pub are_theirs : AreOfText r.options.reading T theirs
     pub option : WriteOption
     pub is_option : IsWriting r.options (Some r.separator) option
+    pub has_values : HasThreeWayValues r.which r.rule side base ours (document_in theirs) (document_in new)
     pub mid : Pieces
-    pub is_merged : IsMerged r.rule (side_below side) base ours (document_in theirs) (document_in mid)
-    pub are_made : AreMade r.rule option theirs
-        (taken_under r.rule (side_below side) base ours (document_in theirs)) mid
-    pub are_left : AreLeftUnless r.rule option side mid
-        (conflicts_under r.rule base ours (document_in theirs)) new
+    pub are_made : AreMadeBy r.which r.rule option theirs
+        (taken_by r.which r.rule (side_below side) base ours (document_in theirs)) mid
+    pub are_left : AreLeftUnless r.which r.rule option side mid
+        (conflicts_by r.which r.rule base ours (document_in theirs)) new
 
   -- the bytes after the mark, and the lines of the conflicts
   pub record IsThreeWay (byte_order_mark : List ℕ) (done : ThreeWayDone) : Type 0 where
@@ -76,7 +94,7 @@ module _ (r : RuledBy) (side : Option Side) (base ours : Document) (T : Text) wh
     pub are_merged : AreMerged theirs new
     pub is_text : IsTextAfter byte_order_mark new done.bytes.items
     pub are_conflicts : done.conflicts.items
-        ≡ flat_map conflict_line (conflicts_under r.rule base ours (document_in theirs))
+        ≡ flat_map conflict_line (conflicts_by r.which r.rule base ours (document_in theirs))
 
   -- it would get a mark
   pub record GetsMarkThreeWay (byte_order_mark : List ℕ) : Type 0 where
@@ -91,8 +109,8 @@ module _ (r : RuledBy) (side : Option Side) (base ours : Document) (T : Text) wh
     pub are_theirs : AreOfText r.options.reading T theirs
     pub option : WriteOption
     pub is_option : IsWriting r.options (Some r.separator) option
-    pub is_refused : RefusesOne r.rule option theirs
-        (taken_under r.rule (side_below side) base ours (document_in theirs)) refused
+    pub is_refused : RefusesOneBy r.which r.rule option theirs
+        (taken_by r.which r.rule (side_below side) base ours (document_in theirs)) refused
 
   -- one of the conflicts is
   pub record RefusesConflict (refused : RefusedEdit) : Type 0 where
@@ -101,10 +119,10 @@ module _ (r : RuledBy) (side : Option Side) (base ours : Document) (T : Text) wh
     pub option : WriteOption
     pub is_option : IsWriting r.options (Some r.separator) option
     pub mid : Pieces
-    pub are_made : AreMade r.rule option theirs
-        (taken_under r.rule (side_below side) base ours (document_in theirs)) mid
-    pub is_refused : RefusesUnless r.rule option side mid
-        (conflicts_under r.rule base ours (document_in theirs)) refused
+    pub are_made : AreMadeBy r.which r.rule option theirs
+        (taken_by r.which r.rule (side_below side) base ours (document_in theirs)) mid
+    pub is_refused : RefusesUnless r.which r.rule option side mid
+        (conflicts_by r.which r.rule base ours (document_in theirs)) refused
 
 -- how a merge of two documents into a text after a mark ends
 abbrev pub EndsOnSides : RuledBy → Option Side → (base ours : Document) → List ℕ → Text → ThreeWayEnd → Type 0

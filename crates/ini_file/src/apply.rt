@@ -12,7 +12,7 @@ use crate::ruled::Ruled;
 use crate::three_way::text_after;
 use ini::Error;
 use ini_edit::{RefusedEdit, Source};
-use ini_layers::{Change, apply};
+use ini_layers::{Change, apply_by};
 use std::alloc::{AllocError, Global};
 
 /// How an application ended.
@@ -33,8 +33,8 @@ pub enum ApplyEnd {
     GetsMark,
 }
 
-/// The file's bytes with the changes that the edits tell, made under the rule; where they are reversed, each
-/// setting gets the old value of its change, the last change first. A mark (EF BB BF) at the front of either
+/// The file's bytes with the changes that the edits tell, of what a setting's value is, made under the rule;
+/// where they are reversed, each setting gets the old value of its change, the last change first. A mark (EF BB BF) at the front of either
 /// is no part of its text; that of the file stays.
 pub fn apply_edits(
     alloc: Global,
@@ -135,7 +135,7 @@ fn apply_to_text(
         Ok(write) => write,
         Err(refused) => return ApplyEnd::File(refused),
     };
-    let new = match apply(alloc, ruled.rule, &write, changes, &source) {
+    let new = match apply_by(alloc, ruled.which, ruled.rule, &write, changes, &source) {
         Ok(new) => new,
         Err(refused) => return ApplyEnd::Change(refused),
     };

@@ -3,8 +3,8 @@ ghost use Rattle.std.specs.Prelude.{◌≡◌, ◌++◌, IfOk, OnOk, chars, enco
 ghost use Rattle.ini.specs.Texts.{str_name};
 ghost use Rattle.ini_layers.specs.Differences.{setting_change};
 ghost use Rattle.ini_layers.specs.Merging.{setting_conflict};
-ghost use Rattle.ini_file.specs.ChangeLines.{change_line, color_of, conflict_line, escaped_part, front, told};
-ghost use Rattle.ini_file.specs.ChangeLines.{words_between};
+ghost use Rattle.ini_file.specs.ChangeLines.{change_line, color_of, comment_line, conflict_line};
+ghost use Rattle.ini_file.specs.ChangeLines.{escaped_part, front, told, words_between};
 ghost use Rattle.ini_words.specs.Prints.{part_text};
 
 use ini::Watched;
@@ -25,6 +25,23 @@ pub fn change_lines(
     let mut lines = Vec::new(alloc);
     for change in changes {
         push_change(&mut lines, is_colored, *change)?;
+    }
+    Ok(lines)
+}
+
+/// What is written of changes of comments, in order: of those alone that are of settings of both documents;
+/// in colours where they are asked for. Refused when out of memory alone.
+pub fn comment_lines(
+    alloc: Global,
+    is_colored: bool,
+    changes: &[Change<'_>],
+) -> Result<Vec<u8>, AllocError>
+    ensures { IfOk result (λ lines. lines.items
+        ≡ flat_map (comment_line is_colored) (map setting_change changes.now)) }
+{
+    let mut lines = Vec::new(alloc);
+    for change in changes {
+        push_comment(&mut lines, is_colored, *change)?;
     }
     Ok(lines)
 }
@@ -50,6 +67,21 @@ fn push_change(lines: &mut Vec<u8>, is_colored: bool, change: Change<'_>) -> Res
         push_words(lines, color_of(change), change, "\x1B[m\n")
     } else {
         push_words(lines, "", change, "\n")
+    }
+}
+
+// Puts last what is written of a change of a comment.
+fn push_comment(lines: &mut Vec<u8>, is_colored: bool, change: Change<'_>) -> Result<(), AllocError>
+    ensures { OnOk result
+        (lines.new.items ≡ lines.old.items ++ comment_line is_colored (setting_change change.entry)) }
+{
+    if change.old.is_none() || change.new.is_none() {
+        return Ok(());
+    }
+    if is_colored {
+        push_words(lines, "\x1B[33mcomment of ", change, "\x1B[m\n")
+    } else {
+        push_words(lines, "comment of ", change, "\n")
     }
 }
 
@@ -140,8 +172,8 @@ fn push_conflict(lines: &mut Vec<u8>, conflict: Conflict<'_>) -> Result<(), Allo
     push_parts(lines, &parts)
 }
 
-// What stands before a key: the section's name in brackets, with what stands around it.
-fn front_of(name: Option<&str>) -> (&'static str, &str, &'static str)
+/// What stands before a key: the section's name in brackets, with what stands around it.
+pub(crate) fn front_of(name: Option<&str>) -> (&'static str, &str, &'static str)
     ensures { chars result.0.now ++ (escaped_part result.1.now ++ chars result.2.now)
         ≡ front (str_name name.entry) }
 {

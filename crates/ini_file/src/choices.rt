@@ -5,13 +5,14 @@ ghost use Rattle.std.specs.Option.{option_map};
 ghost use Rattle.ini_file.specs.Choices.{chosen, chosen_by, chosen_of, has_own_manner, no_choice, no_switch};
 ghost use Rattle.ini_file.specs.Choices.{with_switch};
 ghost use Rattle.ini_file.specs.Choices.{are_of_saving, are_seconds, has_digits_alone, have_no_option};
-ghost use Rattle.ini_file.specs.Choices.{answers, goes_out, is_short_number, may_be_null, takes};
-ghost use Rattle.ini_file.specs.Choices.{takes_form, takes_layout, takes_manner, takes_of_texts, takes_saving};
-ghost use Rattle.ini_file.specs.Choices.{takes_values, takes_writing, tells_places, writes_pairs, writes_texts};
+ghost use Rattle.ini_file.specs.Choices.{answers, compares, goes_out, is_short_number, may_be_null};
+ghost use Rattle.ini_file.specs.Choices.{setting_value, takes, takes_form, takes_layout, takes_manner};
+ghost use Rattle.ini_file.specs.Choices.{takes_of_texts, takes_saving, takes_settings, takes_values};
+ghost use Rattle.ini_file.specs.Choices.{takes_writing, tells_places, writes_pairs, writes_texts};
 
 use crate::manner::{Manner, takes_name};
 use crate::spacing::{Spacing, takes_spacing};
-use ini_layers::Side;
+use ini_layers::{SettingValue, Side};
 
 /// What words after the command choose by themselves.
 #[derive(Clone, Copy)]
@@ -42,6 +43,10 @@ pub struct Switches {
     pub reverse: bool,
     /// The separators of neighbouring pairs are laid out below each other.
     pub align: bool,
+    /// A key's values are compared and set as a whole.
+    pub lists: bool,
+    /// Comments that differ are told too.
+    pub comments: bool,
 }
 
 impl Switches {
@@ -63,6 +68,8 @@ impl Switches {
             check: false,
             reverse: false,
             align: false,
+            lists: false,
+            comments: false,
         }
     }
 
@@ -71,6 +78,17 @@ impl Switches {
         ensures { result ≡ are_of_saving self }
     {
         self.in_place || self.force || self.verbose
+    }
+
+    /// What a setting's value is.
+    pub fn setting_value(self) -> SettingValue
+        ensures { result ≡ setting_value self }
+    {
+        if self.lists {
+            SettingValue::List
+        } else {
+            SettingValue::Counting
+        }
     }
 
     /// The switches after a word that is one.
@@ -93,6 +111,8 @@ impl Switches {
             "--check" => switches.check = true,
             "--reverse" => switches.reverse = true,
             "--align" => switches.align = true,
+            "--lists" => switches.lists = true,
+            "--comments" => switches.comments = true,
             _ => return None,
         }
         Some(switches)
@@ -270,7 +290,19 @@ impl<'a> Choices<'a> {
         implies(self.switches.dry_run, !answers(command))
             && implies(self.switches.side.is_some(), command == "merge3")
             && implies(self.switches.reverse, command == "apply")
+            && self.suit_settings(command)
             && self.suit_answer(command)
+    }
+
+    // Whether the command takes the choices that are about what is compared.
+    fn suit_settings(self, command: &str) -> bool
+        ensures { result ≡ takes_settings command.now (chosen_of self.entry) }
+    {
+        implies(self.switches.lists, compares(command))
+            && implies(
+                self.switches.comments,
+                command == "diff" && self.manner.form.is_none(),
+            )
     }
 
     // Whether the command takes the choices that are about the manner in which an answer is told.
@@ -355,6 +387,13 @@ fn may_separate(command: &str, has_none: bool) -> bool
     ensures { result ≡ (writes_pairs command.now && not has_none) }
 {
     writes_pairs(command) && !has_none
+}
+
+// Whether the command compares files, or makes the changes between them.
+fn compares(command: &str) -> bool
+    ensures { result ≡ compares command.now }
+{
+    matches!(command, "diff" | "apply" | "merge3")
 }
 
 // Whether the command may tell where pairs are.

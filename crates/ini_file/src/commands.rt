@@ -40,7 +40,8 @@ impl Shape {
             "--last" | "--default" | "--type" => command == "get",
             "--null" => writes_texts(command) || matches!(command, "check" | "layers"),
             "--format" => FORMS.iter().any(|form| self.writes(form)),
-            "--color" => command == "diff",
+            "--color" | "--comments" => command == "diff",
+            "--lists" => matches!(command, "diff" | "apply" | "merge3"),
             "--reverse" => command == "apply",
             "--allow" | "--deny" | "--fix" | "--suggest" => command == "check",
             "--check" | "--align" | "--indent-pairs" | "--blank-lines" | "--sort" => {

@@ -1,7 +1,7 @@
 //! A comparison of files that are there. This file knows the process's streams, and no word of the program.
 
 use crate::coding::{Coding, FileError};
-use crate::compare::{CompareEnd, compare, compare_status};
+use crate::compare::{CompareEnd, Telling, compare, compare_status};
 use crate::files::{lock_place, read_input, write_output};
 use crate::manner::{AnswerForm, Color};
 use crate::refusals::refuse;
@@ -9,7 +9,7 @@ use crate::run::Outcome;
 use crate::side_words::Comparison;
 use crate::target::Target;
 use ini_dialect::Encoding;
-use std::io::IsTerminal;
+use std::io::{IsTerminal, Write};
 
 /// Compares two files, and answers the exit status, which is 2 after whatever is refused.
 ///
@@ -29,21 +29,23 @@ pub fn compare_files(rt: &HostRuntime, named: Option<Encoding>, asked: &Comparis
         Err(refusal) => return refuse_comparison(rt, asked, asked.to, &[], refusal),
     };
     let (from, to) = (from.as_slice(), to.as_slice());
-    let form = asked.choices.manner.form.unwrap_or(AnswerForm::Lines);
-    let is_colored = has_colors(rt, asked, target);
-    let end = compare(rt.alloc(), asked.ruled, form, is_colored, from, to);
+    let telling = Telling {
+        form: asked.choices.manner.form.unwrap_or(AnswerForm::Lines),
+        is_colored: has_colors(rt, asked, target),
+        with_comments: asked.choices.switches.comments,
+    };
+    let end = compare(rt.alloc(), asked.ruled, telling, from, to);
     let status = compare_status(&end);
     match end {
-        CompareEnd::Done(lines) => match write_output(
-            rt,
-            Coding::told(),
-            target,
-            None,
-            lines.as_slice(),
-        ) {
-            Ok(()) => status,
-            Err(refusal) => refuse_comparison(rt, asked, target.reported(), &[], refusal),
-        },
+        CompareEnd::Done(files) => {
+            let lines = files.lines.as_slice();
+            let written = write_output(rt, Coding::told(), target, None, lines);
+            let _ = rt.stderr().write_all(files.others.as_slice());
+            match written {
+                Ok(()) => status,
+                Err(refusal) => refuse_comparison(rt, asked, target.reported(), &[], refusal),
+            }
+        }
         CompareEnd::From(refusal) => refuse_comparison(rt, asked, asked.from, from, refusal.into()),
         CompareEnd::To(refusal) => refuse_comparison(rt, asked, asked.to, to, refusal.into()),
     }

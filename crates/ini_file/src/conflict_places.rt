@@ -82,7 +82,7 @@ pub fn flat_sides(
     let ours = load(alloc, read, ours)?;
     let (_, text) = text_of(theirs)?;
     let theirs = Source::read(alloc, text, read)?;
-    FlatSides::new(alloc, ruled.rule, &base, &ours, &theirs)
+    FlatSides::by(alloc, ruled.which, ruled.rule, &base, &ours, &theirs)
 }
 
 // The line and the column at which the pair of a setting that counts begins in a file, if it is there.

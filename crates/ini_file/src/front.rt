@@ -99,6 +99,7 @@ impl<'a> Call<'a> {
         Ruled {
             options: self.options,
             rule: self.dialect.lookup,
+            which: self.choices.switches.setting_value(),
             separator: self.separator(),
         }
     }

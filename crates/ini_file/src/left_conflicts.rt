@@ -4,7 +4,7 @@ ghost use Rattle.std.specs.Prelude.{◌≡◌, ◌++◌, ℕ, IfErr, IfOk, List,
 ghost use Rattle.ini.specs.Texts.{str_name, text_of};
 ghost use Rattle.ini_layers.specs.Differences.{setting_change};
 ghost use Rattle.ini_layers.specs.Merging.{conflicts_of, setting_conflict};
-ghost use Rattle.ini_layers.specs.SourceChanges.{RefusesValue};
+ghost use Rattle.ini_layers.specs.SourceChanges.{RefusesValueBy};
 ghost use Rattle.ini_file.specs.ChangeLines.{conflict_line, escaped_part};
 ghost use Rattle.ini_file.specs.LeftConflicts.{AreLeft, AreLeftUnless, IsLeft, IsPutAbove, MakesOurs};
 ghost use Rattle.ini_file.specs.LeftConflicts.{RefusesAbove, RefusesOneToLeave, RefusesToLeave};
@@ -14,7 +14,7 @@ use crate::change_lines::{conflict_lines, push_parts};
 use crate::ruled_merge::refused_first;
 use ini_dialect::Lookup;
 use ini_edit::{EditError, RefusedEdit, Source};
-use ini_layers::{Change, Conflict, FlatSides, Side, apply_in_place};
+use ini_layers::{Change, Conflict, FlatSides, SettingValue, Side, apply_in_place_by};
 use ini_text::{Error, WriteOption};
 use std::alloc::{AllocError, Global};
 
@@ -28,17 +28,18 @@ use std::alloc::{AllocError, Global};
 /// 0. Those before it are left then, so this is for pieces that are dropped.
 pub fn leave_conflicts(
     alloc: Global,
+    which: SettingValue,
     rule: Lookup,
     write: &WriteOption,
     side: Option<Side>,
     sides: &FlatSides,
     source: &mut Source<'_>,
 ) -> Result<Vec<u8>, RefusedEdit>
-    ensures left { OnOk result (AreLeftUnless rule write.now side source.old
+    ensures left { OnOk result (AreLeftUnless which rule write.now side source.old
         (conflicts_of sides.now.base sides.now.ours sides.now.theirs) source.new) }
     ensures lines { IfOk result (λ lines. lines.items
         ≡ flat_map conflict_line (conflicts_of sides.now.base sides.now.ours sides.now.theirs)) }
-    ensures refused { IfErr result (RefusesUnless rule write.now side source.old
+    ensures refused { IfErr result (RefusesUnless which rule write.now side source.old
         (conflicts_of sides.now.base sides.now.ours sides.now.theirs)) }
 {
     let conflicts = match sides.conflicts(alloc) {
@@ -51,7 +52,7 @@ pub fn leave_conflicts(
         Err(AllocError) => return Err(refused_first(Error::Memory(AllocError))),
     };
     if side.is_none() {
-        leave_each(alloc, rule, write, conflicts, source)?;
+        leave_each(alloc, which, rule, write, conflicts, source)?;
     }
     Ok(lines)
 }
@@ -59,18 +60,19 @@ pub fn leave_conflicts(
 // Leaves one after another.
 fn leave_each(
     alloc: Global,
+    which: SettingValue,
     rule: Lookup,
     write: &WriteOption,
     conflicts: &[Conflict<'_>],
     source: &mut Source<'_>,
 ) -> Result<(), RefusedEdit>
     ensures left { OnOk result
-        (AreLeft rule write.now source.old (map setting_conflict conflicts.now) source.new) }
+        (AreLeft which rule write.now source.old (map setting_conflict conflicts.now) source.new) }
     ensures refused { IfErr result
-        (RefusesOneToLeave rule write.now source.old (map setting_conflict conflicts.now)) }
+        (RefusesOneToLeave which rule write.now source.old (map setting_conflict conflicts.now)) }
 {
     for (index, conflict) in conflicts.iter().enumerate() {
-        if let Err(refusal) = leave(alloc, rule, write, *conflict, source) {
+        if let Err(refusal) = leave(alloc, which, rule, write, *conflict, source) {
             return Err(RefusedEdit { index, refusal });
         }
     }
@@ -80,38 +82,41 @@ fn leave_each(
 // Leaves one.
 fn leave(
     alloc: Global,
+    which: SettingValue,
     rule: Lookup,
     write: &WriteOption,
     conflict: Conflict<'_>,
     source: &mut Source<'_>,
 ) -> Result<(), EditError>
     ensures left { OnOk result
-        (IsLeft rule write.now (setting_conflict conflict.entry) source.old source.new) }
+        (IsLeft which rule write.now (setting_conflict conflict.entry) source.old source.new) }
     ensures refused { IfErr result
-        (RefusesToLeave rule write.now (setting_conflict conflict.entry) source.old) }
+        (RefusesToLeave which rule write.now (setting_conflict conflict.entry) source.old) }
 {
-    let (change, theirs) = (conflict.change, conflict.theirs);
-    make_ours(alloc, rule, write, change, source)?;
-    put_above(alloc, rule, write, change, ("; ours", change.new), source)?;
-    put_above(alloc, rule, write, change, ("; theirs", theirs), source)?;
+    let change = conflict.change;
+    let (ours, theirs) = (("; ours", change.new), ("; theirs", conflict.theirs));
+    make_ours(alloc, which, rule, write, change, source)?;
+    put_above(alloc, which, rule, write, change, ours, source)?;
+    put_above(alloc, which, rule, write, change, theirs, source)?;
     Ok(())
 }
 
 // Sets the value of ours where it has one.
 fn make_ours(
     alloc: Global,
+    which: SettingValue,
     rule: Lookup,
     write: &WriteOption,
     change: Change<'_>,
     source: &mut Source<'_>,
 ) -> Result<(), EditError>
     ensures made { OnOk result
-        (MakesOurs rule write.now (setting_change change.entry) source.old source.new) }
-    ensures refused { IfErr result (RefusesValue rule write.now (str_name change.entry.name)
+        (MakesOurs which rule write.now (setting_change change.entry) source.old source.new) }
+    ensures refused { IfErr result (RefusesValueBy which rule write.now (str_name change.entry.name)
         (chars change.entry.key.now) (str_name change.entry.new) source.old) }
 {
     match change.new {
-        Some(_) => apply_in_place(alloc, rule, write, change, source),
+        Some(_) => apply_in_place_by(alloc, which, rule, write, change, source),
         None => Ok(()),
     }
 }
@@ -120,17 +125,18 @@ fn make_ours(
 // there is such a pair.
 fn put_above(
     alloc: Global,
+    which: SettingValue,
     rule: Lookup,
     write: &WriteOption,
     change: Change<'_>,
     told: (&str, Option<&str>),
     source: &mut Source<'_>,
 ) -> Result<bool, EditError>
-    ensures put { OnOk result (IsPutAbove rule write.now (str_name change.entry.name)
+    ensures put { OnOk result (IsPutAbove which rule write.now (str_name change.entry.name)
         (chars change.entry.key.now)
         (side_comment (chars told.entry.0.now) (str_name told.entry.1)) source.old source.new) }
     ensures refused { IfErr result
-        (RefusesAbove rule write.now (str_name change.entry.name) (chars change.entry.key.now)
+        (RefusesAbove which rule write.now (str_name change.entry.name) (chars change.entry.key.now)
         (side_comment (chars told.entry.0.now) (str_name told.entry.1)) source.old) }
 {
     let (name, key) = (change.name, change.key);

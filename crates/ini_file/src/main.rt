@@ -56,6 +56,7 @@ mod merge_words;
 mod notes;
 mod order;
 mod origins;
+mod other_values;
 mod over;
 mod page;
 mod pair_places;

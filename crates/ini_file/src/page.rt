@@ -150,6 +150,9 @@ Choices:
                    ini; of diff: lines, json, or edits for apply; of check: warnings
                    for programs, as json, sarif or github
   --color WHEN     of diff: auto (on a terminal), always or never
+  --lists          of diff, apply and merge3: all values of a key count, as a list,
+                   not one of them alone
+  --comments       of diff: tells each comment above a key that differs too
   --reverse        of apply: what undoes the edits
   --allow NAME     of check: warnings of this name, as runs-on or surprises or
                    all, aren't reported

@@ -6,6 +6,7 @@ ghost use Rattle.ini_file.specs.Writing.{IsWriting};
 
 use crate::writing::writing;
 use ini_dialect::Lookup;
+use ini_layers::SettingValue;
 use ini_text::{Error, WriteOption};
 use ini_words::Options;
 use std::alloc::Global;
@@ -17,6 +18,8 @@ pub struct Ruled<'a> {
     pub options: Options,
     /// How their pairs are looked up, and set.
     pub rule: Lookup,
+    /// What a setting's value is, where files are compared.
+    pub which: SettingValue,
     /// What stands between key and value in new lines, where the file has nothing to go by.
     pub separator: &'a str,
 }

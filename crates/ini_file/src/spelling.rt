@@ -66,7 +66,9 @@ pub fn kind_of(name: &str) -> Option<Kind>
         | "--theirs"
         | "--check"
         | "--reverse"
-        | "--align" => { Some(Kind::Choice) }
+        | "--align"
+        | "--lists"
+        | "--comments" => { Some(Kind::Choice) }
         "--output"
         | "--default"
         | "--separator"

@@ -2,8 +2,8 @@
 //! word of the program and no device.
 ghost use Rattle.std.specs.Prelude.{◌≡◌, IfErr, IfOk, MatchOption, chars};
 ghost use Rattle.ini_edit.specs.Sources.{document_in};
-ghost use Rattle.ini_layers.specs.Merging.{IsMerged, taken_under};
-ghost use Rattle.ini_layers.specs.SourceChanges.{AreMade, RefusesOne};
+ghost use Rattle.ini_layers.specs.Merging.{IsMergedBy, taken_by};
+ghost use Rattle.ini_layers.specs.SourceChanges.{AreMadeBy, RefusesOneBy};
 ghost use Rattle.ini_file.specs.Ruled.{ruled_of};
 ghost use Rattle.ini_file.specs.ThreeWays.{EndsOnSides, GetsMarkWith, HasThreeWay, IsTextAfter};
 ghost use Rattle.ini_file.specs.ThreeWays.{side_below, three_way_status};
@@ -78,6 +78,7 @@ pub fn merge_sides(
 }
 
 // The same of two documents, and of a text after a mark.
+#[tactic(auto, using(crate::proofs::LeftValueLemmas::has_values))]
 fn merge_into(
     alloc: Global,
     ruled: Ruled<'_>,
@@ -90,6 +91,7 @@ fn merge_into(
         (chars text.now) result }
 {
     let (base, ours) = sides;
+    let (which, below) = (ruled.which, side_below(side));
     let theirs = match Source::read(alloc, text, ruled.options.reading) {
         Ok(theirs) => theirs,
         Err(refused) => return ThreeWayEnd::Theirs(refused),
@@ -98,15 +100,15 @@ fn merge_into(
         Ok(write) => write,
         Err(refused) => return ThreeWayEnd::Theirs(refused),
     };
-    let flat = match FlatSides::new(alloc, ruled.rule, base, ours, &theirs) {
+    let flat = match FlatSides::by(alloc, which, ruled.rule, base, ours, &theirs) {
         Ok(flat) => flat,
         Err(refused) => return ThreeWayEnd::Theirs(refused),
     };
-    let mut new = match flat.merge(alloc, ruled.rule, &write, &theirs, side_below(side)) {
+    let mut new = match flat.merge_by(alloc, which, ruled.rule, &write, &theirs, below) {
         Ok(new) => new,
         Err(refused) => return ThreeWayEnd::Change(refused),
     };
-    let conflicts = match leave_conflicts(alloc, ruled.rule, &write, side, &flat, &mut new) {
+    let conflicts = match leave_conflicts(alloc, which, ruled.rule, &write, side, &flat, &mut new) {
         Ok(conflicts) => conflicts,
         Err(refused) => return ThreeWayEnd::Conflict(refused),
     };

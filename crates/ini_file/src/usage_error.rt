@@ -188,7 +188,8 @@ fn has_two_forms(choices: &[&str]) -> bool {
     choices.contains(&"--format")
         && (choices.contains(&"--null")
             || choices.contains(&"--origin")
-            || choices.contains(&"--type"))
+            || choices.contains(&"--type")
+            || choices.contains(&"--comments"))
 }
 
 // Several files where one gets what is made of one.
@@ -304,7 +305,7 @@ fn print_error<W: Write>(error: UsageError<'_>, err: &mut W) -> io::Result<()> {
         }
         UsageError::OneForm => writeln!(
             err,
-            "--format writes one form, so --null, --origin and --type have no place"
+            "--format writes one form, so --null, --origin, --type and --comments have no place"
         ),
         UsageError::LastOfAll => writeln!(err, "--all gets each value, so --last has no place"),
         UsageError::InputTwice => writeln!(err, "- is standard input, which can't be read twice"),
@@ -428,7 +429,7 @@ fn print_command<W: Write>(word: &str, err: &mut W) -> io::Result<()> {
     }
 }
 
-const CHOICES: [&str; 29] = [
+const CHOICES: [&str; 31] = [
     "--all",
     "--last",
     "--origin",
@@ -445,6 +446,8 @@ const CHOICES: [&str; 29] = [
     "--separator",
     "--ours",
     "--theirs",
+    "--lists",
+    "--comments",
     "--reverse",
     "--indent-pairs",
     "--blank-lines",

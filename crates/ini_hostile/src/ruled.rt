@@ -1,12 +1,14 @@
 //! What a rule like git's makes of texts, with each request for memory refused in turn: a document of its
-//! own, changes made in a text in pieces, a three-way merge, and its conflicts. Refused, the call tells that
-//! and the text stays. And large texts, for which memory is enough.
+//! own, changes made in a text in pieces, lists of values, a three-way merge, and its conflicts. Refused, the
+//! call tells that and the text stays. And large texts, for which memory is enough.
 use crate::scarce::{Attempt, refusals};
 use crate::show::{expect_text, joined, loaded, numbered, shown};
 use ini::{Error, Ini, ParseOption, WriteOption};
-use ini_dialect::{AnyDocument, CaseRule, Lookup, SectionRule, ValueRule};
+use ini_dialect::{AnyDocument, CaseRule, Lookup, SectionRule, ValueRule, list_text, list_values};
 use ini_edit::{EditError, Source};
-use ini_layers::{Change, FlatSides, Side, apply, apply_in_place, diff, merge};
+use ini_layers::{
+    Change, FlatSides, SettingValue, Side, apply, apply_by, apply_in_place, commented, diff, merge,
+};
 use ini_view::View;
 use std::alloc::Global;
 use std::panic::Expect;
@@ -26,7 +28,7 @@ const OURS: &'static str = "[a]\nk=2\n[B]\nj=1\n";
 const THEIRS: &'static str = "; c\n[a]\nk = 1\nj=0\n[b]\nl=5\n[A]\nK = 3\nL=0\ni=4\n";
 
 /// The calls, and what each makes of these.
-const ROWS: [(&'static str, &'static str); 8] = [
+const ROWS: [(&'static str, &'static str); 14] = [
     ("flatten a document", "general: [a]: <k|1> <l|0> "),
     ("flatten a view", "general: [a]: <k|1> <l|0> "),
     (
@@ -50,6 +52,27 @@ const ROWS: [(&'static str, &'static str); 8] = [
         "; c\n[a]\nk = 1\nj=0\n[b]\nl=5\nj=1\n[A]\nK = 3\ni=4\n",
     ),
     ("conflicts", "a k 1 2 3\n"),
+    (
+        "list pieces",
+        "general: [a]: <k|1\n3> <j|0> <l|0> <i|4> [b]: <l|5> ",
+    ),
+    (
+        "set all",
+        "; c\n[a]\nk = 1\nj=0\n[b]\nl=7\nl=8\n[A]\nK = 3\nL=0\ni=4\n",
+    ),
+    (
+        "apply lists",
+        "; c\n[a]\nk = 2\nj=0\n[b]\nl=5\nj=1\n[A]\ni=4\n",
+    ),
+    (
+        "merge lists",
+        "; c\n[a]\nk = 2\nj=0\n[b]\nl=5\nj=1\n[A]\ni=4\n",
+    ),
+    ("a list and back", "a\\nb\nc"),
+    (
+        "comments of pieces",
+        "general: [a]: <k|> <j|> [b]: <l|> [A]: <K|> <L|> <i|> ",
+    ),
 ];
 
 /// Conflicts, a line each: the section's name, the key, and the three values.
@@ -63,6 +86,17 @@ fn conflicts(alloc: Global, sides: &FlatSides) -> Result<String, Error> {
         out.push_str(format!(in alloc; "{name} {key} {base} {ours} {theirs}\n")?.as_str())?;
     }
     Ok(out)
+}
+
+// A list, once it was read back and written again.
+fn read_back(alloc: Global) -> Result<String, Error> {
+    let list = list_text(alloc, &["a\nb", "c"])?.unwrap_or(String::new(alloc));
+    let values = list_values(alloc, &list)?;
+    let [one, other] = values.as_slice() else {
+        return Err(Error::NotUtf8);
+    };
+    let again = list_text(alloc, &[one.as_str(), other.as_str()])?;
+    Ok(again.unwrap_or(String::new(alloc)))
 }
 
 /// A call, its texts, and what it has made.
@@ -94,7 +128,35 @@ impl Ruled<'_> {
             "flatten a view" => AnyDocument::View(&self.base_view),
             _ => AnyDocument::Source(&self.theirs),
         };
-        RULE.flattened(alloc, document)
+        match self.call {
+            "list pieces" => RULE.listed(alloc, document),
+            "comments of pieces" => commented(alloc, &self.theirs),
+            _ => RULE.flattened(alloc, document),
+        }
+    }
+
+    // Makes the lists that ours changed in theirs.
+    fn lists_applied(&self, alloc: Global) -> Result<String, EditError> {
+        let which = SettingValue::List;
+        let base = which.flat(alloc, RULE, AnyDocument::Ini(&self.base))?;
+        let ours = which.flat(alloc, RULE, AnyDocument::Ini(&self.ours))?;
+        let changes = diff(alloc, &base, &ours)?;
+        let (write, theirs) = (WriteOption::default(), &self.theirs);
+        match apply_by(alloc, which, RULE, &write, changes.as_slice(), theirs) {
+            Ok(new) => Ok(new.to_text(alloc)?),
+            Err(refused) => Err(refused.refusal),
+        }
+    }
+
+    // The same by a merge for ours.
+    fn lists_merged(&self, alloc: Global) -> Result<String, EditError> {
+        let (which, theirs) = (SettingValue::List, &self.theirs);
+        let sides = FlatSides::by(alloc, which, RULE, &self.base, &self.ours, theirs)?;
+        let write = WriteOption::default();
+        match sides.merge_by(alloc, which, RULE, &write, theirs, Side::Ours) {
+            Ok(new) => Ok(new.to_text(alloc)?),
+            Err(refused) => Err(refused.refusal),
+        }
     }
 
     // Makes what ours changed in theirs.
@@ -118,31 +180,53 @@ impl Ruled<'_> {
         }
     }
 
+    fn conflicts(&self, alloc: Global) -> Result<String, EditError> {
+        let sides = FlatSides::new(alloc, RULE, &self.base, &self.ours, &self.theirs)?;
+        Ok(conflicts(alloc, &sides)?)
+    }
+
+    fn shown(&self, alloc: Global) -> Result<String, EditError> {
+        let document = self.flattened(alloc)?;
+        Ok(shown(alloc, &document).map_err(Error::from)?)
+    }
+
+    // What the call makes beside theirs.
+    fn text_made(&self, alloc: Global) -> Result<String, EditError> {
+        match self.call {
+            "apply" => self.applied(alloc),
+            "merge for ours" => self.merged(alloc, Side::Ours),
+            "merge for theirs" => self.merged(alloc, Side::Theirs),
+            "conflicts" => self.conflicts(alloc),
+            "apply lists" => self.lists_applied(alloc),
+            "merge lists" => self.lists_merged(alloc),
+            "a list and back" => Ok(read_back(alloc)?),
+            _ => self.shown(alloc),
+        }
+    }
+
+    // Changes theirs in place.
+    fn change(&mut self, alloc: Global) -> Result<(), EditError> {
+        let (write, theirs) = (WriteOption::default(), &mut self.theirs);
+        if self.call == "set all" {
+            return RULE.set_all_in_source(alloc, &write, theirs, Some("B"), "l", &["7", "8"]);
+        }
+        let change = Change {
+            name: Some("A"),
+            key: "k",
+            old: None,
+            new: Some("new"),
+        };
+        apply_in_place(alloc, RULE, &write, change, theirs)
+    }
+
     // What the call makes, if it is no text in place of theirs.
     fn answer(&mut self, alloc: Global) -> Result<Option<String>, EditError> {
         match self.call {
-            "apply" => Ok(Some(self.applied(alloc)?)),
-            "merge for ours" => Ok(Some(self.merged(alloc, Side::Ours)?)),
-            "merge for theirs" => Ok(Some(self.merged(alloc, Side::Theirs)?)),
-            "conflicts" => {
-                let sides = FlatSides::new(alloc, RULE, &self.base, &self.ours, &self.theirs)?;
-                Ok(Some(conflicts(alloc, &sides)?))
-            }
-            "apply in place" => {
-                let change = Change {
-                    name: Some("A"),
-                    key: "k",
-                    old: None,
-                    new: Some("new"),
-                };
-                let write = WriteOption::default();
-                apply_in_place(alloc, RULE, &write, change, &mut self.theirs)?;
+            "set all" | "apply in place" => {
+                self.change(alloc)?;
                 Ok(None)
             }
-            _ => {
-                let flat = self.flattened(alloc)?;
-                Ok(Some(shown(alloc, &flat).map_err(Error::from)?))
-            }
+            _ => Ok(Some(self.text_made(alloc)?)),
         }
     }
 }
@@ -221,4 +305,26 @@ fn large_texts_are_merged_by_a_rule(rt: HostRuntime) {
         let merged = merged.to_text(alloc).expect(&rt, "memory");
         expect_text(&rt, &merged, &large(&rt, "new", end));
     }
+}
+
+#[test]
+fn large_lists_are_set_and_read(rt: HostRuntime) {
+    let alloc = rt.alloc();
+    let text = numbered(&rt, "k=@\n", 0, 4000);
+    let mut source = Source::read(alloc, &text, ParseOption::default()).expect(&rt, "pieces");
+    let lists = RULE
+        .listed(alloc, AnyDocument::Source(&source))
+        .expect(&rt, "memory");
+    let list = lists.get_from(None, "k").expect(&rt, "a list");
+    let lines = list.replace(alloc, '\n', "\nk=").expect(&rt, "memory");
+    expect_text(&rt, &joined(&rt, &["k=", &lines, "\n"]), &text);
+    let values = list_values(alloc, list).expect(&rt, "memory");
+    let last = values.as_slice().last().expect(&rt, "a value");
+    assert!(rt; values.len() == 4000 && last.as_str() == "3999");
+    let write = WriteOption::default();
+    let few = ["a", "b"];
+    RULE.set_all_in_source(alloc, &write, &mut source, None, "K", &few)
+        .expect(&rt, "they are set");
+    let new = source.to_text(alloc).expect(&rt, "memory");
+    expect_text(&rt, &new, "k=a\nk=b\n");
 }

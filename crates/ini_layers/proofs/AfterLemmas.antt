@@ -3,19 +3,24 @@ use Rattle.std.proofs.Common.{◌≡◌, ◌∙◌, ◌⊎◌, ap, sym, refl, in
 use Rattle.std.proofs.Common.{not, ◌&&◌, ◌||◌, List, [], ◌∷◌, ◌++◌, map, filter, Option, None, Some, is_some}
 use Rattle.std.proofs.lemmas.Bool.{cases_Bool, cond_both}
 use Rattle.std.proofs.lemmas.List.Elements.{filter-append}
+use Rattle.std.proofs.lemmas.List.{map-append}
 use Rattle.std.specs.List.{list_all, list_any}
 use Rattle.ini.specs.Documents.{Document, value_in}
 use Rattle.ini.specs.Texts.{Text, is_name}
 use Rattle.ini.proofs.KeepingLemmas.{names_equal}
-use Rattle.ini_dialect.specs.Flattened.{flattened, told, told_name}
-use Rattle.ini_dialect.specs.Lookups.{value_under}
+use Rattle.ini_dialect.specs.Flattened.{listed, told, told_name}
+use Rattle.ini_dialect.specs.Lists.{list_text}
 use Rattle.ini_dialect.specs.declared.rule.Lookup.{Lookup}
-use Rattle.ini_dialect.proofs.FlattenedLemmas.{flat-answers}
-use Rattle.ini_layers.specs.Applying.{HasChanged, LeadsTo, fits_change, value_after}
+use Rattle.ini_dialect.proofs.FlattenedLemmas.{listed-value, told_values}
+use Rattle.ini_dialect.proofs.ListLemmas.{list-back}
+use Rattle.ini_layers.specs.Applying.{HasChangedBy, LeadsToBy, fits_change, meant_changes, meant_value}
+use Rattle.ini_layers.specs.Applying.{value_after}
 use Rattle.ini_layers.specs.Differences.{SettingChange, change_of, difference, differs, is_lost, is_of}
-use Rattle.ini_layers.specs.Settings.{Setting, is_setting, settings}
+use Rattle.ini_layers.specs.Settings.{Setting, flat_by, is_setting, settings, value_by}
+use Rattle.ini_layers.specs.declared.change.SettingValue.{SettingValue}
+use Rattle.ini_layers.specs.declared.change.SettingValue.TheVariants.{Counting, List as WholeList}
 use Rattle.ini_layers.proofs.SettingLemmas.{has-settings, settings_equal}
-use Rattle.ini_layers.proofs.ToldLemmas.{after-told, difference-told, is_told}
+use Rattle.ini_layers.proofs.ToldLemmas.{after-told, difference-told, flat-by, is_told}
 
 pub after-append : (of : SettingChange → Bool) (xs ys : List SettingChange) (value : Option Text)
     → value_after of (xs ++ ys) value ≡ value_after of ys (value_after of xs value)
@@ -152,22 +157,77 @@ one_or_other old new =
       | inr apart ↦ rw apart refl
     ]
 
+-- the lists of listed documents are read as they are
+meant-list : (values : List Text) → meant_value WholeList (list_text values) ≡ list_text values
+meant-list values = at (list_text values) refl
+  where
+    at : (o : Option Text) → list_text values ≡ o → meant_value WholeList o ≡ o
+    at None is = refl
+    at (Some list) is = ap list_text (list-back values list is) ∙ is
+
+abbrev meant_change : SettingChange → SettingChange
+meant_change c = record c { new = meant_value WholeList c.new }
+
+fixed-passing : (test : SettingChange → Bool) (cs : List SettingChange) → map meant_change cs ≡ cs
+    → map meant_change (filter test cs) ≡ filter test cs
+fixed-passing test [] fixed = refl
+fixed-passing test (c ∷ cs) fixed =
+    let here : meant_change c ≡ c = cc in
+    let rest : map meant_change cs ≡ cs = cc in
+    at (test c) here (fixed-passing test cs rest)
+  where
+    at : (b : Bool) → meant_change c ≡ c → map meant_change (filter test cs) ≡ filter test cs
+        → map meant_change (cond b (c ∷ filter test cs) (filter test cs))
+        ≡ cond b (c ∷ filter test cs) (filter test cs)
+    at true here later = ap (λ x. x ∷ map meant_change (filter test cs)) here ∙ ap (λ l. c ∷ l) later
+    at false here later = later
+
+fixed-changes : (rule : Lookup) (from to : Document) (ss : List Setting)
+    → map meant_change (map (change_of (listed rule from) (listed rule to)) ss)
+    ≡ map (change_of (listed rule from) (listed rule to)) ss
+fixed-changes rule from to [] = refl
+fixed-changes rule from to (s ∷ ss) =
+    let new = listed-value rule to s.0 s.1 in
+    let values = told_values rule to s.0 s.1 in
+    let here : meant_value WholeList (value_in s.0 s.1 (listed rule to)) ≡ value_in s.0 s.1 (listed rule to) =
+    ap (meant_value WholeList) new ∙ meant-list values ∙ sym new in
+    ap (λ v. record (change_of (listed rule from) (listed rule to) s) { new = v }
+    ∷ map meant_change (map (change_of (listed rule from) (listed rule to)) ss)) here
+    ∙ ap (λ l. change_of (listed rule from) (listed rule to) s ∷ l) (fixed-changes rule from to ss)
+
+pub meant-difference : (which : SettingValue) (rule : Lookup) (test : SettingChange → Bool)
+    (from to : Document)
+    → meant_changes which (filter test (difference (flat_by which rule from) (flat_by which rule to)))
+    ≡ filter test (difference (flat_by which rule from) (flat_by which rule to))
+meant-difference Counting rule test from to = refl
+meant-difference WholeList rule test from to =
+    let changed = map (change_of (listed rule from) (listed rule to)) (settings (listed rule to)) in
+    let lost = map (change_of (listed rule from) (listed rule to)) (settings (listed rule from)) in
+    fixed-passing test (difference (listed rule from) (listed rule to))
+    (map-append meant_change (filter differs changed) (filter is_lost lost)
+    ∙ ap (λ l. l ++ map meant_change (filter is_lost lost))
+    (fixed-passing differs changed (fixed-changes rule from to (settings (listed rule to))))
+    ∙ ap (λ l. filter differs changed ++ l)
+    (fixed-passing is_lost lost (fixed-changes rule from to (settings (listed rule from)))))
+
 -- what has the changes of a difference looks up as its second document where it did as its first
-pub difference-leads : (rule : Lookup) (changes : List SettingChange) (old new : Document)
-    → HasChanged rule changes old new → LeadsTo rule changes old new
-difference-leads rule changes old new has from to is agree name key =
+pub difference-leads : (which : SettingValue) (rule : Lookup) (changes : List SettingChange)
+    (old new : Document) → HasChangedBy which rule changes old new → LeadsToBy which rule changes old new
+difference-leads which rule changes old new has from to is agree name key =
     let n = told_name rule.case name in
     let k = told rule.case key in
-    let ff = flattened rule from in
-    let ft = flattened rule to in
-    let value = value_under rule name key old in
+    let ff = flat_by which rule from in
+    let ft = flat_by which rule to in
+    let value = value_by which rule name key old in
     let all = filter-all (difference ff ft) in
-    let here : value ≡ value_in n k ff = agree name key ∙ sym (flat-answers rule from name key) in
+    let here : value ≡ value_in n k ff = agree name key ∙ sym (flat-by which rule from name key) in
     has name key
-    ∙ ap (λ cs. value_after (fits_change rule name key) cs value) (is ∙ sym all)
-    ∙ after-told rule name key (filter (λ x. true) (difference ff ft)) value
-    (ap (list_all (is_told rule)) all ∙ difference-told rule from to)
+    ∙ ap (λ cs. value_after (fits_change rule name key) (meant_changes which cs) value) (is ∙ sym all)
+    ∙ ap (λ cs. value_after (fits_change rule name key) cs value)
+    (meant-difference which rule (λ x. true) from to)
+    ∙ after-told which rule name key (filter (λ x. true) (difference ff ft)) value
+    (ap (list_all (is_told which rule)) all ∙ difference-told which rule from to)
     ∙ after-difference ff ft n k (λ x. true) value
     ∙ ap (cond (not (is_name (value_in n k ff) (value_in n k ft)) && true) (value_in n k ft)) here
     ∙ one_or_other (value_in n k ff) (value_in n k ft)
-    ∙ flat-answers rule to name key
+    ∙ flat-by which rule to name key

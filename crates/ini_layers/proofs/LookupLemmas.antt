@@ -1,7 +1,6 @@
 -- The last value of a list of documents.
 use Rattle.std.proofs.Common.{◌≡◌, ◌∙◌, ap, sym, subst, refl, arith, ℕ, ◌+◌, ◌-◌, List, [], ◌∷◌, ◌++◌}
-use Rattle.std.proofs.Common.{append_assoc, length, length-append, Option, None, Some, IsSome, is_some}
-use Rattle.std.proofs.Common.{true}
+use Rattle.std.proofs.Common.{append_assoc, length, length-append, Option, None, Some, IsSome, is_some, true}
 use Rattle.std.specs.List.{cons_option, filter_map, last_or}
 use Rattle.std.proofs.lemmas.Bool.{false≢true}
 use Rattle.std.specs.Option.{option_map, option_or}

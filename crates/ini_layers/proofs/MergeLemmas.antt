@@ -13,26 +13,26 @@ use Rattle.ini.specs.Documents.{Document, value_in}
 use Rattle.ini.specs.Texts.{Text, is_name}
 use Rattle.ini.proofs.KeepingLemmas.{name_refl, names_equal}
 use Rattle.ini_edit.specs.Sources.{Pieces}
-use Rattle.ini_dialect.specs.Flattened.{flattened, told, told_name}
-use Rattle.ini_dialect.specs.Lookups.{value_under}
+use Rattle.ini_dialect.specs.Flattened.{told, told_name}
 use Rattle.ini_dialect.specs.declared.rule.Lookup.{Lookup}
-use Rattle.ini_dialect.proofs.FlattenedLemmas.{flat-answers}
-use Rattle.ini_layers.specs.Applying.{HasChanged}
+use Rattle.ini_layers.specs.Applying.{HasChangedBy, fits_change, value_after}
 use Rattle.ini_layers.specs.Differences.{SettingChange, change_of, difference, differs, is_lost, is_of}
 use Rattle.ini_layers.specs.Differences.{setting_change}
-use Rattle.ini_layers.specs.Merging.{ChangePlaces, HasConflictsOf, HaveNoConflict, IsMerged, SettingConflict}
+use Rattle.ini_layers.specs.Merging.{ChangePlaces, HasConflictsOf, HaveNoConflict, IsMergedBy}
+use Rattle.ini_layers.specs.Merging.{SettingConflict}
 use Rattle.ini_layers.specs.Merging.{chosen, conflicts_of, conflicts_with, is_conflict, is_taken}
-use Rattle.ini_layers.specs.Merging.{merged_value, setting_conflict, taken_changes, taken_under, with_theirs}
-use Rattle.ini_layers.specs.Settings.{AlikeUnder, AnswerAlike, Setting, settings}
-use Rattle.ini_layers.specs.SourceChanges.{AreMade}
+use Rattle.ini_layers.specs.Merging.{merged_value, setting_conflict, taken_by, taken_changes, with_theirs}
+use Rattle.ini_layers.specs.Settings.{AlikeBy, AnswerAlike, Setting, flat_by, settings, value_by}
+use Rattle.ini_layers.specs.SourceChanges.{AreMadeBy}
 use Rattle.ini_layers.specs.declared.change.Change.{Change}
+use Rattle.ini_layers.specs.declared.change.SettingValue.{SettingValue}
 use Rattle.ini_layers.specs.declared.merging.Conflict.{Conflict}
 use Rattle.ini_layers.specs.declared.merging.Side.{Side}
 use Rattle.ini_layers.specs.declared.merging.Side.TheVariants.{Ours, Theirs}
-use Rattle.ini_layers.proofs.AfterLemmas.{after-difference, filter-both}
+use Rattle.ini_layers.proofs.AfterLemmas.{after-difference, filter-both, meant-difference}
 use Rattle.ini_layers.proofs.DifferenceLemmas.{difference-has, find-listed, none-if-agree}
 use Rattle.ini_layers.proofs.SettingLemmas.{has-settings, same_setting}
-use Rattle.ini_layers.proofs.ToldLemmas.{after-told, difference-told, passing-told}
+use Rattle.ini_layers.proofs.ToldLemmas.{after-told, difference-told, flat-by, passing-told}
 
 -- the taken change's value, or theirs, is the merged one
 taken-value : (side : Side) (base ours theirs : Option Text)
@@ -52,28 +52,31 @@ taken-value side base ours theirs =
     at Ours false false false same = refl
     at Theirs false false false same = refl
 
-pub taken-merged : (rule : Lookup) (side : Side) (base ours theirs new : Document)
-    → HasChanged rule (taken_under rule side base ours theirs) theirs new
-    → IsMerged rule side base ours theirs new
-taken-merged rule side base ours theirs new has name key =
+pub taken-merged : (which : SettingValue) (rule : Lookup) (side : Side) (base ours theirs new : Document)
+    → HasChangedBy which rule (taken_by which rule side base ours theirs) theirs new
+    → IsMergedBy which rule side base ours theirs new
+taken-merged which rule side base ours theirs new has name key =
     let n = told_name rule.case name in
     let k = told rule.case key in
-    let fb = flattened rule base in
-    let fo = flattened rule ours in
-    let ft = flattened rule theirs in
+    let fb = flat_by which rule base in
+    let fo = flat_by which rule ours in
+    let ft = flat_by which rule theirs in
     let taken = is_taken side ft in
-    let here = flat-answers rule theirs name key in
+    let here = flat-by which rule theirs name key in
+    let value = value_by which rule name key theirs in
     has name key
-    ∙ after-told rule name key (filter taken (difference fb fo)) (value_under rule name key theirs)
-    (passing-told rule taken (difference fb fo) (difference-told rule base ours))
-    ∙ after-difference fb fo n k taken (value_under rule name key theirs)
+    ∙ ap (λ cs. value_after (fits_change rule name key) cs value)
+    (meant-difference which rule taken base ours)
+    ∙ after-told which rule name key (filter taken (difference fb fo)) value
+    (passing-told which rule taken (difference fb fo) (difference-told which rule base ours))
+    ∙ after-difference fb fo n k taken value
     ∙ ap (cond (not (is_name (value_in n k fb) (value_in n k fo))
     && taken (change_of fb fo (n, k))) (value_in n k fo)) (sym here)
     ∙ taken-value side (value_in n k fb) (value_in n k fo) (value_in n k ft)
-    ∙ ap (λ v. merged_value side v (value_in n k fo) (value_in n k ft)) (flat-answers rule base name key)
-    ∙ ap (λ v. merged_value side (value_under rule name key base) v (value_in n k ft))
-    (flat-answers rule ours name key)
-    ∙ ap (merged_value side (value_under rule name key base) (value_under rule name key ours)) here
+    ∙ ap (λ v. merged_value side v (value_in n k fo) (value_in n k ft)) (flat-by which rule base name key)
+    ∙ ap (λ v. merged_value side (value_by which rule name key base) v (value_in n k ft))
+    (flat-by which rule ours name key)
+    ∙ ap (merged_value side (value_by which rule name key base) (value_by which rule name key ours)) here
 
 -- where theirs is the base the merged value is ours
 from_base : (side : Side) (base ours theirs : Option Text) → base ≡ theirs
@@ -88,11 +91,12 @@ from_base side base ours theirs is =
     at false same true here = refl
     at false same false here = absurd cc
 
-pub merged-from_base : (rule : Lookup) (side : Side) (base ours theirs new : Document)
-    → IsMerged rule side base ours theirs new → AlikeUnder rule base theirs → AlikeUnder rule ours new
-merged-from_base rule side base ours theirs new merged agree name key =
-    from_base side (value_under rule name key base) (value_under rule name key ours)
-    (value_under rule name key theirs) (agree name key)
+pub merged-from_base : (which : SettingValue) (rule : Lookup) (side : Side) (base ours theirs new : Document)
+    → IsMergedBy which rule side base ours theirs new → AlikeBy which rule base theirs
+    → AlikeBy which rule ours new
+merged-from_base which rule side base ours theirs new merged agree name key =
+    from_base side (value_by which rule name key base) (value_by which rule name key ours)
+    (value_by which rule name key theirs) (agree name key)
     ∙ sym (merged name key)
 
 -- without a conflict it is the same for both ways round
@@ -114,29 +118,31 @@ either_way s t base ours theirs none =
     at false false true false bo bt ot vt n = absurd (let no : false ≡ true = vt (ot refl) in cc)
     at false false false v bo bt ot vt n = absurd (let no : true ≡ false = n in cc)
 
-pub change-places : (rule : Lookup) (base ours theirs : Document) → ChangePlaces rule base ours theirs
-change-places rule base ours theirs s t new other none merged also name key =
+pub change-places : (which : SettingValue) (rule : Lookup) (base ours theirs : Document)
+    → ChangePlaces which rule base ours theirs
+change-places which rule base ours theirs s t new other none merged also name key =
     merged name key
-    ∙ either_way s t (value_under rule name key base) (value_under rule name key ours)
-    (value_under rule name key theirs) (no_conflict rule base ours theirs none name key)
+    ∙ either_way s t (value_by which rule name key base) (value_by which rule name key ours)
+    (value_by which rule name key theirs) (no_conflict rule base ours theirs none name key)
     ∙ sym (also name key)
   where
     no_conflict : (rule : Lookup) (b o t : Document)
-        → HaveNoConflict (flattened rule b) (flattened rule o) (flattened rule t)
-        → (name : Option Text) (key : Text) → is_conflict (value_under rule name key b)
-        (value_under rule name key o) (value_under rule name key t) ≡ false
+        → HaveNoConflict (flat_by which rule b) (flat_by which rule o) (flat_by which rule t)
+        → (name : Option Text) (key : Text) → is_conflict (value_by which rule name key b)
+        (value_by which rule name key o) (value_by which rule name key t) ≡ false
     no_conflict rule b o t none name key =
         rw (
-          sym (flat-answers rule b name key),
-          sym (flat-answers rule o name key),
-          sym (flat-answers rule t name key),
+          sym (flat-by which rule b name key),
+          sym (flat-by which rule o name key),
+          sym (flat-by which rule t name key),
         ) (none (told_name rule.case name) (told rule.case key))
 
 -- where no change is made all stays
-pub made-nothing : (rule : Lookup) (w : WriteOption) {old new : Pieces} {changes : List SettingChange}
-    → AreMade rule w old changes new → changes ≡ [] → new ≡ old
-made-nothing rule w AreMade.none is = refl
-made-nothing rule w (AreMade.then {changes} c made next) is = absurd (ends changes is)
+pub made-nothing : (which : SettingValue) (rule : Lookup)
+    (w : WriteOption) {old new : Pieces} {changes : List SettingChange}
+    → AreMadeBy which rule w old changes new → changes ≡ [] → new ≡ old
+made-nothing which rule w AreMadeBy.none is = refl
+made-nothing which rule w (AreMadeBy.then {changes} c made next) is = absurd (ends changes is)
   where
     ends : (cs : List SettingChange) → cs ++ c ∷ [] ≡ [] → ⊥
     ends [] e = let no : c ∷ [] ≡ [] = e in cc

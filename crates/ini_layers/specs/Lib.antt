@@ -1,6 +1,7 @@
 pub mod Layers
 pub mod Layering
 pub mod Settings
+pub mod Comments
 pub mod Differences
 pub mod Applying
 pub mod SourceChanges

@@ -4,11 +4,11 @@ use Rattle.std.specs.Prelude.{Option, None, Some}
 use Rattle.std.specs.List.{find}
 use Rattle.ini.specs.Documents.{Document, value_in}
 use Rattle.ini.specs.Texts.{Text, is_name, str_name}
-use Rattle.ini_dialect.specs.Flattened.{flattened}
-use Rattle.ini_dialect.specs.Lookups.{value_under}
 use Rattle.ini_dialect.specs.declared.rule.Lookup.{Lookup}
 use Rattle.ini_layers.specs.Differences.{SettingChange, change_of, difference, is_of, setting_change}
-use Rattle.ini_layers.specs.Settings.{AlikeUnder}
+use Rattle.ini_layers.specs.Settings.{AlikeBy, flat_by, value_by}
+use Rattle.ini_layers.specs.declared.change.SettingValue.{SettingValue}
+use Rattle.ini_layers.specs.declared.change.SettingValue.TheVariants.{Counting}
 use Rattle.ini_layers.specs.declared.merging.Conflict.{Conflict}
 use Rattle.ini_layers.specs.declared.merging.FlatSides.{FlatSides}
 use Rattle.ini_layers.specs.declared.merging.Side.{Side}
@@ -31,11 +31,16 @@ abbrev pub is_conflict : (base ours theirs : Option Text) → Bool
 is_conflict base ours theirs =
     not (is_name base ours) && (not (is_name base theirs) && not (is_name ours theirs))
 
--- every look-up under the rule answers the merged value
+-- every setting has the merged value
+abbrev pub IsMergedBy : SettingValue → Lookup → Side → (base ours theirs new : Document) → Type 0
+IsMergedBy which rule side base ours theirs new =
+    (name : Option Text) (key : Text) → value_by which rule name key new
+    ≡ merged_value side (value_by which rule name key base) (value_by which rule name key ours)
+    (value_by which rule name key theirs)
+
+-- every look-up under the rule answers it
 abbrev pub IsMerged : Lookup → Side → (base ours theirs new : Document) → Type 0
-IsMerged rule side base ours theirs new = (name : Option Text) (key : Text) → value_under rule name key new
-    ≡ merged_value side (value_under rule name key base) (value_under rule name key ours)
-    (value_under rule name key theirs)
+IsMerged rule side base ours theirs new = IsMergedBy Counting rule side base ours theirs new
 
 -- no setting is in conflict
 abbrev pub HaveNoConflict : (base ours theirs : Document) → Type 0
@@ -43,11 +48,12 @@ HaveNoConflict base ours theirs = (name : Option Text) (key : Text)
     → is_conflict (value_in name key base) (value_in name key ours) (value_in name key theirs) ≡ false
 
 -- the two documents change places where there is no conflict
-abbrev pub ChangePlaces : Lookup → (base ours theirs : Document) → Type 0
-ChangePlaces rule base ours theirs = (side other_side : Side) (new other : Document)
-    → HaveNoConflict (flattened rule base) (flattened rule ours) (flattened rule theirs)
-    → IsMerged rule side base ours theirs new → IsMerged rule other_side base theirs ours other
-    → AlikeUnder rule new other
+abbrev pub ChangePlaces : SettingValue → Lookup → (base ours theirs : Document) → Type 0
+ChangePlaces which rule base ours theirs = (side other_side : Side) (new other : Document)
+    → HaveNoConflict (flat_by which rule base) (flat_by which rule ours) (flat_by which rule theirs)
+    → IsMergedBy which rule side base ours theirs new
+    → IsMergedBy which rule other_side base theirs ours other
+    → AlikeBy which rule new other
 
 -- a change of ours that is made in theirs: its setting has another value there, and theirs didn't touch it,
 -- or ours is chosen
@@ -61,9 +67,12 @@ abbrev pub taken_changes : Side → (base ours theirs : Document) → List Setti
 taken_changes side base ours theirs = filter (is_taken side theirs) (difference base ours)
 
 -- the same of documents under a rule
+abbrev pub taken_by : SettingValue → Lookup → Side → (base ours theirs : Document) → List SettingChange
+taken_by which rule side base ours theirs =
+    taken_changes side (flat_by which rule base) (flat_by which rule ours) (flat_by which rule theirs)
+
 abbrev pub taken_under : Lookup → Side → (base ours theirs : Document) → List SettingChange
-taken_under rule side base ours theirs =
-    taken_changes side (flattened rule base) (flattened rule ours) (flattened rule theirs)
+taken_under rule side base ours theirs = taken_by Counting rule side base ours theirs
 
 -- a change of ours, and what theirs made of its setting
 pub record SettingConflict : Type 0 where
@@ -92,11 +101,17 @@ HasConflictsOf base ours theirs conflicts = (name : Option Text) (key : Text)
     then Some (with_theirs theirs (change_of base ours (name, key))) else None)
 
 -- those of documents under a rule
+abbrev pub conflicts_by : SettingValue → Lookup → (base ours theirs : Document) → List SettingConflict
+conflicts_by which rule base ours theirs =
+    conflicts_of (flat_by which rule base) (flat_by which rule ours) (flat_by which rule theirs)
+
 abbrev pub conflicts_under : Lookup → (base ours theirs : Document) → List SettingConflict
-conflicts_under rule base ours theirs =
-    conflicts_of (flattened rule base) (flattened rule ours) (flattened rule theirs)
+conflicts_under rule base ours theirs = conflicts_by Counting rule base ours theirs
 
 -- the three documents under a rule
+abbrev pub flat_sides_by : SettingValue → Lookup → (base ours theirs : Document) → FlatSides
+flat_sides_by which rule base ours theirs =
+    let flat = flat_by which rule in record { base = flat base; ours = flat ours; theirs = flat theirs }
+
 abbrev pub flat_sides : Lookup → (base ours theirs : Document) → FlatSides
-flat_sides rule base ours theirs =
-    record { base = flattened rule base; ours = flattened rule ours; theirs = flattened rule theirs }
+flat_sides rule base ours theirs = flat_sides_by Counting rule base ours theirs

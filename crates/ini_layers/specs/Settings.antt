@@ -3,8 +3,12 @@ use Rattle.std.specs.Prelude.{◌≡◌, Bool, ◌&&◌, List, [], map, flat_map
 use Rattle.ini.specs.Documents.{Document, first_section, names, value_in}
 use Rattle.ini.specs.Properties.{distinct}
 use Rattle.ini.specs.Texts.{Text, is_name, is_text}
-use Rattle.ini_dialect.specs.Lookups.{value_under}
+use Rattle.ini_dialect.specs.Flattened.{flattened, listed}
+use Rattle.ini_dialect.specs.Lists.{list_text}
+use Rattle.ini_dialect.specs.Lookups.{all_values, value_under}
 use Rattle.ini_dialect.specs.declared.rule.Lookup.{Lookup}
+use Rattle.ini_layers.specs.declared.change.SettingValue.{SettingValue}
+use Rattle.ini_layers.specs.declared.change.SettingValue.TheVariants.{Counting, List as WholeList}
 
 -- a setting: the name of its section, and its key
 abbrev pub Setting : Type 0
@@ -21,10 +25,24 @@ value_of s d = value_in s.0 s.1 d
 abbrev pub AnswerAlike : Document → Document → Type 0
 AnswerAlike d e = (name : Option Text) (key : Text) → value_in name key d ≡ value_in name key e
 
+-- what a setting's value is under a rule: the one that counts, or the list of all, as a text
+abbrev pub value_by : SettingValue → Lookup → Option Text → Text → Document → Option Text
+value_by Counting rule name key d = value_under rule name key d
+value_by WholeList rule name key d = list_text (all_values rule name key d)
+
+-- the document in which each setting has that as its one value
+abbrev pub flat_by : SettingValue → Lookup → Document → Document
+flat_by Counting rule d = flattened rule d
+flat_by WholeList rule d = listed rule d
+
+-- every setting has the same value
+abbrev pub AlikeBy : SettingValue → Lookup → Document → Document → Type 0
+AlikeBy which rule d e = (name : Option Text) (key : Text)
+    → value_by which rule name key d ≡ value_by which rule name key e
+
 -- every look-up under the rule answers the same
 abbrev pub AlikeUnder : Lookup → Document → Document → Type 0
-AlikeUnder rule d e = (name : Option Text) (key : Text)
-    → value_under rule name key d ≡ value_under rule name key e
+AlikeUnder rule d e = AlikeBy Counting rule d e
 
 -- the settings of the first section of the name, each once, in order
 abbrev pub settings_in : Document → Option Text → List Setting

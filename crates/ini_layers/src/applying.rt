@@ -1,16 +1,19 @@
 //! Changes put into a text in pieces. This file knows the text by its calls.
-ghost use Rattle.std.specs.Prelude.{◌≡◌, IfErr, IfOk, OnOk, chars, map};
-ghost use Rattle.ini.specs.Texts.{str_name};
+ghost use Rattle.std.specs.Prelude.{◌≡◌, IfErr, IfOk, OnOk, Some, chars, map};
+ghost use Rattle.ini.specs.Properties.{texts_of};
+ghost use Rattle.ini.specs.Texts.{str_name, str_text};
 ghost use Rattle.ini_edit.specs.Sources.{document_in};
-ghost use Rattle.ini_layers.specs.Applying.{HasChanged, LeadsTo};
+ghost use Rattle.ini_layers.specs.Applying.{HasChanged, HasChangedBy, LeadsTo, LeadsToBy};
 ghost use Rattle.ini_layers.specs.Differences.{setting_change};
-ghost use Rattle.ini_layers.specs.SourceChanges.{AreMade, IsMade, RefusesOne, RefusesValue};
+ghost use Rattle.ini_layers.specs.SourceChanges.{AreMade, AreMadeBy, IsMade, IsMadeBy, MakesValue, RefusesOne};
+ghost use Rattle.ini_layers.specs.SourceChanges.{RefusesOneBy, RefusesValue, RefusesValueBy};
+ghost use Rattle.ini_layers.specs.declared.change.SettingValue.TheVariants as SettingValues;
 
-use crate::change::Change;
-use ini_dialect::Lookup;
+use crate::change::{Change, SettingValue};
+use ini_dialect::{Lookup, list_values};
 use ini_edit::{EditError, LaterPairs, RefusedEdit, Source};
 use ini_text::WriteOption;
-use std::alloc::Global;
+use std::alloc::{AllocError, Global};
 
 /// A text in pieces with the changes made in it under a rule, one after another, all or none, whatever
 /// values the settings have there. A setting with a new value has it in the pair that counts; by the default
@@ -35,11 +38,37 @@ pub fn apply<'a>(
         (document_in source.now) (document_in new)) }
     ensures refused { IfErr result (RefusesOne rule write.now source.now (map setting_change changes.now)) }
 {
+    let new = apply_by(alloc, SettingValue::Counting, rule, write, changes, source)?;
+    Ok(new)
+}
+
+/// The same of changes of what a setting's value is. A list of values is set as `Lookup::set_all_in_source`
+/// sets it; a text that `list_text` can't have written stands for the list that is read of it.
+///
+/// # Errors
+///
+/// Those of `apply`, and those of `set_all_in_source`.
+pub fn apply_by<'a>(
+    alloc: Global,
+    which: SettingValue,
+    rule: Lookup,
+    write: &WriteOption,
+    changes: &[Change<'_>],
+    source: &Source<'a>,
+) -> Result<Source<'a>, RefusedEdit>
+    ensures made { IfOk result (AreMadeBy which rule write.now source.now (map setting_change changes.now)) }
+    ensures values { IfOk result (λ new. HasChangedBy which rule (map setting_change changes.now)
+        (document_in source.now) (document_in new)) }
+    ensures leads { IfOk result (λ new. LeadsToBy which rule (map setting_change changes.now)
+        (document_in source.now) (document_in new)) }
+    ensures refused { IfErr result
+        (RefusesOneBy which rule write.now source.now (map setting_change changes.now)) }
+{
     let mut new = match source.copy(alloc) {
         Ok(new) => new,
         Err(refusal) => return Err(refused_at(0, refusal.into())),
     };
-    put_each(alloc, rule, write, changes, &mut new)?;
+    put_each(alloc, which, rule, write, changes, &mut new)?;
     Ok(new)
 }
 
@@ -47,17 +76,19 @@ pub fn apply<'a>(
 // that are dropped then.
 fn put_each(
     alloc: Global,
+    which: SettingValue,
     rule: Lookup,
     write: &WriteOption,
     changes: &[Change<'_>],
     source: &mut Source<'_>,
 ) -> Result<(), RefusedEdit>
     ensures made { OnOk result
-        (AreMade rule write.now source.old (map setting_change changes.now) source.new) }
-    ensures refused { IfErr result (RefusesOne rule write.now source.old (map setting_change changes.now)) }
+        (AreMadeBy which rule write.now source.old (map setting_change changes.now) source.new) }
+    ensures refused { IfErr result
+        (RefusesOneBy which rule write.now source.old (map setting_change changes.now)) }
 {
     for (index, change) in changes.iter().enumerate() {
-        if let Err(refusal) = apply_in_place(alloc, rule, write, *change, source) {
+        if let Err(refusal) = apply_in_place_by(alloc, which, rule, write, *change, source) {
             return Err(refused_at(index, refusal));
         }
     }
@@ -87,15 +118,68 @@ pub fn apply_in_place(
     ensures refused { IfErr result (RefusesValue rule write.now (str_name change.entry.name)
         (chars change.entry.key.now) (str_name change.entry.new) source.old) }
 {
+    apply_in_place_by(alloc, SettingValue::Counting, rule, write, change, source)
+}
+
+/// Makes one change in place, as `apply_by` makes each.
+///
+/// # Errors
+///
+/// Those of `apply_by`. Refused, it may have set or taken out some of the pairs of a list.
+pub fn apply_in_place_by(
+    alloc: Global,
+    which: SettingValue,
+    rule: Lookup,
+    write: &WriteOption,
+    change: Change<'_>,
+    source: &mut Source<'_>,
+) -> Result<(), EditError>
+    ensures made { OnOk result
+        (IsMadeBy which rule write.now (setting_change change.entry) source.old source.new) }
+    ensures refused { IfErr result (RefusesValueBy which rule write.now (str_name change.entry.name)
+        (chars change.entry.key.now) (str_name change.entry.new) source.old) }
+{
     let (name, key) = (change.name, change.key);
-    match change.new {
-        Some(value) if rule.is_own() => {
-            source.set(alloc, write, LaterPairs::TakenOut, name, key, value)?;
+    let Some(value) = change.new else {
+        rule.delete_each_in_source(alloc, source, name, key)?;
+        return Ok(());
+    };
+    match which {
+        SettingValue::List => put_list(alloc, rule, write, name, key, value, source),
+        SettingValue::Counting if rule.is_own() => {
+            source.set(alloc, write, LaterPairs::TakenOut, name, key, value)
         }
-        Some(value) => rule.set_in_source(alloc, write, source, name, key, value)?,
-        None => {
-            rule.delete_each_in_source(alloc, source, name, key)?;
-        }
+        SettingValue::Counting => rule.set_in_source(alloc, write, source, name, key, value),
     }
-    Ok(())
+}
+
+// Gives a key the values of a list. Refused, some may be set.
+fn put_list(
+    alloc: Global,
+    rule: Lookup,
+    write: &WriteOption,
+    name: Option<&str>,
+    key: &str,
+    list: &str,
+    source: &mut Source<'_>,
+) -> Result<(), EditError>
+    ensures made { OnOk result (MakesValue SettingValues.List rule write.now (str_name name.entry)
+        (chars key.now) (Some (chars list.now)) source.old source.new) }
+    ensures refused { IfErr result (RefusesValueBy SettingValues.List rule write.now (str_name name.entry)
+        (chars key.now) (Some (chars list.now)) source.old) }
+{
+    let values = list_values(alloc, list)?;
+    let values = lent(alloc, values.as_slice())?;
+    rule.set_each_in_source(alloc, write, source, name, key, values.as_slice())
+}
+
+// Texts, lent.
+fn lent(alloc: Global, texts: &[String]) -> Result<Vec<&str>, AllocError>
+    ensures { IfOk result (λ lent. map str_text lent.items ≡ texts_of texts.now) }
+{
+    let mut lent = Vec::new(alloc);
+    for text in texts {
+        lent.push(text.as_str())?;
+    }
+    Ok(lent)
 }

@@ -4,11 +4,12 @@
 //!
 //! `Layers` is seen as the list of its documents. What is said of differences is of look-ups alone: comments,
 //! blanks, order and spelling are none. Under a dialect's rule documents are flattened before, and changes
-//! are made by the rule's edits.
+//! are made by the rule's edits. A key's value is the one that counts, or the list of all.
 #![tactic(auto)]
 
 mod applying;
 mod change;
+mod comments;
 mod difference;
 mod iter;
 pub mod laws;
@@ -16,8 +17,9 @@ mod layering;
 mod layers;
 mod merging;
 
-pub use applying::{apply, apply_in_place};
-pub use change::Change;
+pub use applying::{apply, apply_by, apply_in_place, apply_in_place_by};
+pub use change::{Change, SettingValue};
+pub use comments::commented;
 pub use difference::diff;
 pub use iter::DocumentIter;
 pub use layers::{Layers, NoLayer};

@@ -7,14 +7,15 @@ ghost use Rattle.ini.specs.Texts.{str_name};
 ghost use Rattle.ini_dialect.specs.Flattened.{flattened};
 ghost use Rattle.ini_edit.specs.Sources.{document_in};
 ghost use Rattle.ini_layers.specs.Differences.{setting_change};
-ghost use Rattle.ini_layers.specs.Merging.{HasConflictsOf, HaveNoConflict, IsMerged, conflicts_of};
-ghost use Rattle.ini_layers.specs.Merging.{conflicts_with, flat_sides, is_conflict, is_taken, is_taken_at};
+ghost use Rattle.ini_layers.specs.Merging.{HasConflictsOf, HaveNoConflict, IsMerged, IsMergedBy};
+ghost use Rattle.ini_layers.specs.Merging.{conflicts_of, conflicts_with, flat_sides, flat_sides_by};
+ghost use Rattle.ini_layers.specs.Merging.{is_conflict, is_taken, is_taken_at};
 ghost use Rattle.ini_layers.specs.Merging.{setting_conflict, taken_changes, taken_under, with_theirs};
-ghost use Rattle.ini_layers.specs.Settings.{AlikeUnder};
-ghost use Rattle.ini_layers.specs.SourceChanges.{AreMade, RefusesOne};
+ghost use Rattle.ini_layers.specs.Settings.{AlikeUnder, flat_by};
+ghost use Rattle.ini_layers.specs.SourceChanges.{AreMade, AreMadeBy, RefusesOne, RefusesOneBy};
 
-use crate::applying::{apply, refused_at};
-use crate::change::{Change, is_same_value};
+use crate::applying::{apply_by, refused_at};
+use crate::change::{Change, SettingValue, is_same_value};
 use crate::difference::diff;
 use ini::{Error, Ini};
 use ini_dialect::{AnyDocument, Lookup};
@@ -76,7 +77,7 @@ pub fn merge<'a>(
     Ok(new)
 }
 
-/// The three documents of a merge, flattened under a rule.
+/// The three documents of a merge, in which each setting has its value under a rule.
 #[derive(Drop)]
 pub struct FlatSides {
     pub base: Ini,
@@ -98,10 +99,27 @@ impl FlatSides {
         ensures theirs { IfOk result (λ sides. sides.theirs ≡ flattened rule (document_in theirs.now)) }
         ensures only_memory { IsOkUnless result (Error.Memory alloc_error) }
     {
+        FlatSides::by(alloc, SettingValue::Counting, rule, base, ours, theirs)
+    }
+
+    /// What a setting's value is in the documents, under the rule. Refused when out of memory alone.
+    pub fn by(
+        alloc: Global,
+        which: SettingValue,
+        rule: Lookup,
+        base: &Ini,
+        ours: &Ini,
+        theirs: &Source<'_>,
+    ) -> Result<FlatSides, Error>
+        ensures base { IfOk result (λ sides. sides.base ≡ flat_by which rule base.now) }
+        ensures ours { IfOk result (λ sides. sides.ours ≡ flat_by which rule ours.now) }
+        ensures theirs { IfOk result (λ sides. sides.theirs ≡ flat_by which rule (document_in theirs.now)) }
+        ensures only_memory { IsOkUnless result (Error.Memory alloc_error) }
+    {
         Ok(FlatSides {
-            base: rule.flattened(alloc, AnyDocument::Ini(base))?,
-            ours: rule.flattened(alloc, AnyDocument::Ini(ours))?,
-            theirs: rule.flattened(alloc, AnyDocument::Source(theirs))?,
+            base: which.flat(alloc, rule, AnyDocument::Ini(base))?,
+            ours: which.flat(alloc, rule, AnyDocument::Ini(ours))?,
+            theirs: which.flat(alloc, rule, AnyDocument::Source(theirs))?,
         })
     }
 
@@ -127,11 +145,37 @@ impl FlatSides {
         ensures refused { IfErr result (RefusesOne rule write.now theirs.now
             (taken_changes side self.now.base self.now.ours self.now.theirs)) }
     {
+        let new = self.merge_by(alloc, SettingValue::Counting, rule, write, theirs, side)?;
+        Ok(new)
+    }
+
+    /// The same of sides by what a setting's value is.
+    ///
+    /// # Errors
+    ///
+    /// Those of `apply_by`, of the taken changes; where memory is refused before, the index is 0.
+    pub fn merge_by<'a>(
+        &self,
+        alloc: Global,
+        which: SettingValue,
+        rule: Lookup,
+        write: &WriteOption,
+        theirs: &Source<'a>,
+        side: Side,
+    ) -> Result<Source<'a>, RefusedEdit>
+        ensures merged { (base ours : Document)
+            → self.now ≡ flat_sides_by which rule base ours (document_in theirs.now) → IfOk result
+            (λ new. IsMergedBy which rule side base ours (document_in theirs.now) (document_in new)) }
+        ensures made { IfOk result (AreMadeBy which rule write.now theirs.now
+            (taken_changes side self.now.base self.now.ours self.now.theirs)) }
+        ensures refused { IfErr result (RefusesOneBy which rule write.now theirs.now
+            (taken_changes side self.now.base self.now.ours self.now.theirs)) }
+    {
         let changes = match self.taken(alloc, side) {
             Ok(changes) => changes,
             Err(refusal) => return Err(refused_at(0, refusal.into())),
         };
-        let new = apply(alloc, rule, write, changes.as_slice(), theirs)?;
+        let new = apply_by(alloc, which, rule, write, changes.as_slice(), theirs)?;
         Ok(new)
     }
 

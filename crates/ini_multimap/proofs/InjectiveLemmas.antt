@@ -1,5 +1,7 @@
 -- Keys that their codes tell from one another.
-use Rattle.std.proofs.Common.{◌≡◌, ◌≢◌, ℕ, zero, suc, ◌<◌, Bool, true, List, [], ◌∷◌, ◌++◌, length, length-append, Option, None, Some, IfSome, refl, sym, ap, ◌∙◌, subst, arith, inl, inr}
+use Rattle.std.proofs.Common.{◌≡◌, ◌≢◌, ℕ, zero, suc, ◌<◌, Bool, true, List, [], ◌∷◌, ◌++◌, length}
+use Rattle.std.proofs.Common.{length-append, Option, None, Some, IfSome, refl, sym, ap, ◌∙◌, subst, arith}
+use Rattle.std.proofs.Common.{inl, inr}
 use Rattle.std.specs.Cmp.{IsEquivalence}
 use Rattle.std.specs.Option.{option_map}
 use Rattle.std.proofs.lemmas.Bool.{cases_eq}
@@ -7,7 +9,8 @@ use Rattle.std.proofs.Math.ListN.{set}
 use Rattle.ini_multimap.specs.Inside.Fits.{IsInjective, IsKeyOf, IsToldBy, value_in, code_at}
 use Rattle.ini_multimap.specs.Inside.Chains.{IsPrev}
 use Rattle.ini_multimap.specs.Inside.Moves.{MovesDown}
-use Rattle.ini_multimap.proofs.SlotLemmas.{none_is_some, same_some, value_push, value_before, value_hole, value_within}
+use Rattle.ini_multimap.proofs.SlotLemmas.{none_is_some, same_some, value_push, value_before, value_hole}
+use Rattle.ini_multimap.proofs.SlotLemmas.{value_within}
 use Rattle.ini_multimap.proofs.MoveLemmas.{code_key}
 
 module _ {K : Type 0} (eq : K → K → Bool) (code : K → ℕ) where

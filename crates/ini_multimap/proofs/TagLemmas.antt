@@ -1,5 +1,7 @@
 -- Tags of codes: what they tell of the slots before a candidate, and how they follow their keys.
-use Rattle.std.proofs.Common.{◌≡◌, ◌≢◌, ℕ, suc, ◌<◌, ◌≤◌, false, not, List, [], ◌∷◌, ◌++◌, length, length-append, get_or, Option, None, Some, refl, sym, ap, ◌∙◌, arith, inl, inr, true≢false}
+use Rattle.std.proofs.Common.{◌≡◌, ◌≢◌, ℕ, suc, ◌<◌, ◌≤◌, false, not, List, [], ◌∷◌, ◌++◌, length}
+use Rattle.std.proofs.Common.{length-append, get_or, Option, None, Some, refl, sym, ap, ◌∙◌, arith, inl, inr}
+use Rattle.std.proofs.Common.{true≢false}
 use Rattle.std.proofs.Math.ListN.{set, length-set}
 use Rattle.std.proofs.lemmas.Bool.{cases_eq, eq-eqb}
 use Rattle.std.proofs.lemmas.List.{get_or-set_same, get_or-set_other}
@@ -10,7 +12,8 @@ use Rattle.std.specs.Prelude.{◌==◌}
 use Rattle.ini_multimap.specs.Inside.Fits.{code_at, value_in}
 use Rattle.ini_multimap.specs.Inside.Candidates.{IsAhead}
 use Rattle.ini_multimap.specs.Inside.Tags.{AreTagged, tag_of}
-use Rattle.ini_multimap.proofs.SlotLemmas.{code_within, none_is_some, same_some, value_before, value_push, value_set_here, value_set_other}
+use Rattle.ini_multimap.proofs.SlotLemmas.{code_within, none_is_some, same_some, value_before, value_push}
+use Rattle.ini_multimap.proofs.SlotLemmas.{value_set_here, value_set_other}
 
 -- the first place that has the tag of the code c
 abbrev pub first_tag : List ℕ → ℕ → ℕ

@@ -1,12 +1,15 @@
 -- The values that a walk between two candidates has left.
-use Rattle.std.proofs.Common.{◌≡◌, ℕ, zero, suc, ◌<◌, ◌≤◌, Bool, true, false, List, [], ◌∷◌, ◌++◌, length, take, drop, slice_get, Option, None, Some, IfSome, refl, sym, ap, ◌∙◌, arith}
+use Rattle.std.proofs.Common.{◌≡◌, ℕ, zero, suc, ◌<◌, ◌≤◌, Bool, true, false, List, [], ◌∷◌, ◌++◌, length}
+use Rattle.std.proofs.Common.{take, drop, slice_get, Option, None, Some, IfSome, refl, sym, ap, ◌∙◌, arith}
 use Rattle.std.proofs.lemmas.List.{take_all, drop_all, length-take}
 use Rattle.ini_multimap.specs.Pairs.{values_at}
 use Rattle.ini_multimap.specs.Slots.{pairs_in}
 use Rattle.ini_multimap.specs.Inside.Fits.{value_in, fits_at, fits_before}
-use Rattle.ini_multimap.specs.Inside.Candidates.{AreBetween, IsAhead, IsAfter, IsCandidate, back_left, values_from, walk_left}
+use Rattle.ini_multimap.specs.Inside.Candidates.{AreBetween, IsAhead, IsAfter, IsCandidate, back_left}
+use Rattle.ini_multimap.specs.Inside.Candidates.{values_from, walk_left}
 use Rattle.ini_multimap.proofs.CellLemmas.{nth_is, fits_count}
-use Rattle.ini_multimap.proofs.WalkLemmas.{walk_shorter, back_shorter, before_zero, before_hit, before_miss, before_more, none_ahead, no_more, none_after, none_before}
+use Rattle.ini_multimap.proofs.WalkLemmas.{walk_shorter, back_shorter, before_zero, before_hit, before_miss}
+use Rattle.ini_multimap.proofs.WalkLemmas.{before_more, none_ahead, no_more, none_after, none_before}
 
 module _ {A : Type 0} where
   none_left : (a b : ℕ) (xs : List A) → b ≤ a → drop a (take b xs) ≡ []

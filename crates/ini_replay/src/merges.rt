@@ -13,8 +13,8 @@ use crate::options::{
 };
 use ini::{Error, Ini};
 use ini_dialect::Lookup;
-use ini_edit::{EditError, Source};
-use ini_layers::{Conflict, FlatSides, Side, merge};
+use ini_edit::{EditError, RefusedEdit, Source};
+use ini_layers::{Conflict, FlatSides, SettingValue, Side, merge};
 use ini_text::{ParseOption, WriteOption};
 use std::alloc::Global;
 use std::io;
@@ -25,15 +25,18 @@ struct Question {
     read: ParseOption,
     write: WriteOption,
     side: Side,
+    which: SettingValue,
     base: String,
     ours: String,
     theirs: String,
 }
 
-fn side_of_word(word: &str) -> io::Result<Side> {
+fn side_of_word(word: &str) -> io::Result<(Side, SettingValue)> {
     match word {
-        "ours" => Ok(Side::Ours),
-        "theirs" => Ok(Side::Theirs),
+        "ours" => Ok((Side::Ours, SettingValue::Counting)),
+        "theirs" => Ok((Side::Theirs, SettingValue::Counting)),
+        "ours-lists" => Ok((Side::Ours, SettingValue::List)),
+        "theirs-lists" => Ok((Side::Theirs, SettingValue::List)),
         _ => Err(invalid()),
     }
 }
@@ -47,7 +50,7 @@ impl Question {
         let escape_policy = policy_of_name(word()?)?;
         let line_separator = separator_of_line_end(word()?)?;
         let separator = text_of_hex(alloc, word()?)?;
-        let side = side_of_word(word()?)?;
+        let (side, which) = side_of_word(word()?)?;
         let base = text_of_hex(alloc, word()?)?;
         let ours = text_of_hex(alloc, word()?)?;
         let theirs = text_of_hex(alloc, word()?)?;
@@ -59,6 +62,7 @@ impl Question {
                 kv_separator: separator_of_text(separator.as_str())?,
             },
             side,
+            which,
             base,
             ours,
             theirs,
@@ -92,15 +96,27 @@ fn push_conflict(line: &mut String, conflict: &Conflict<'_>) -> Result<(), Error
     push_value(line, conflict.theirs)
 }
 
+// Theirs with the changes of ours.
+fn merged<'a>(
+    alloc: Global,
+    question: &Question,
+    (base, ours, theirs): (&Ini, &Ini, &Source<'a>),
+    sides: &FlatSides,
+) -> Result<Source<'a>, RefusedEdit> {
+    let (write, side, rule) = (&question.write, question.side, Lookup::default());
+    match question.which {
+        SettingValue::Counting => merge(alloc, rule, write, base, ours, theirs, side),
+        which => sides.merge_by(alloc, which, rule, write, theirs, side),
+    }
+}
+
 // The merged text, or why there is none.
 fn push_merged(
     alloc: Global,
     line: &mut String,
-    question: &Question,
-    (base, ours, theirs): (&Ini, &Ini, &Source<'_>),
+    merged: Result<Source<'_>, RefusedEdit>,
 ) -> Result<(), Error> {
-    let (write, side) = (&question.write, question.side);
-    match merge(alloc, Lookup::default(), write, base, ours, theirs, side) {
+    match merged {
         Ok(new) => {
             line.push_str("new:")?;
             push_hex(line, new.to_text(alloc)?.as_bytes())?;
@@ -118,8 +134,10 @@ fn answered(alloc: Global, question: &Question) -> Result<String, Error> {
     let ours = Ini::load_from_str_opt(alloc, question.ours.as_str(), question.read)?;
     let theirs = Source::read(alloc, question.theirs.as_str(), question.read)?;
     let mut line = String::new(alloc);
-    push_merged(alloc, &mut line, question, (&base, &ours, &theirs))?;
-    let sides = FlatSides::new(alloc, Lookup::default(), &base, &ours, &theirs)?;
+    let (which, rule) = (question.which, Lookup::default());
+    let sides = FlatSides::by(alloc, which, rule, &base, &ours, &theirs)?;
+    let new = merged(alloc, question, (&base, &ours, &theirs), &sides);
+    push_merged(alloc, &mut line, new)?;
     for conflict in &sides.conflicts(alloc)? {
         push_conflict(&mut line, conflict)?;
     }

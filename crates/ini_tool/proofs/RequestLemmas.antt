@@ -1,6 +1,6 @@
 -- Words that are no command, by the number of their arguments.
-use Rattle.std.proofs.Common.{◌≡◌, ◌≤◌, ◌<◌, List, [], ◌∷◌, length, map, string_bytes, String, Global, None, false}
-use Rattle.std.proofs.Common.{codes, rules, arith}
+use Rattle.std.proofs.Common.{◌≡◌, ◌≤◌, ◌<◌, List, [], ◌∷◌, length, map, string_bytes, String, Global, None}
+use Rattle.std.proofs.Common.{false, codes, rules, arith}
 use Rattle.ini.specs.Texts.{is_text}
 use Rattle.ini_words.specs.Words.{Word}
 use Rattle.ini_tool.specs.Words.{request_for}

@@ -1,6 +1,5 @@
 -- What the words of the program ask for: options in any order, and then a command with its arguments.
-use Rattle.std.specs.Prelude.{if◌then◌else◌, List, [], ◌∷◌, codes, chars}
-use Rattle.std.specs.Prelude.{Option, None, Some, option_and_then}
+use Rattle.std.specs.Prelude.{if◌then◌else◌, List, [], ◌∷◌, codes, chars, Option, None, Some, option_and_then}
 use Rattle.std.specs.Option.{option_map}
 use Rattle.ini.specs.Texts.{is_text}
 use Rattle.ini_words.specs.Words.{Word, given}

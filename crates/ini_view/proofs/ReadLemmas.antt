@@ -1,6 +1,7 @@
 -- Items that borrow, read one after another, and the document that they make: what `ini`'s ReadingLemmas
 -- have of items that own.
-use Rattle.std.proofs.Common.{◌≡◌, ◌∙◌, ◌<◌, ◌-◌, [], ◌∷◌, ◌++◌, length, ap, sym, subst, Option, None, Some, Result, Ok, Err, arith, append-nil}
+use Rattle.std.proofs.Common.{◌≡◌, ◌∙◌, ◌<◌, ◌-◌, [], ◌∷◌, ◌++◌, length, ap, sym, subst, Option, None, Some}
+use Rattle.std.proofs.Common.{Result, Ok, Err, arith, append-nil}
 use Rattle.std.proofs.lemmas.Grind.{fold-append}
 use Rattle.ini_text.specs.Grammar.Texts.{Reads}
 use Rattle.ini_text.specs.Parsing.Items.{borrowed_item_of}

@@ -1,7 +1,7 @@
--- What changes and a merge make of the pieces of a text.
+-- What changes and a merge make of the pieces of a text, under a rule.
 use Rattle.std.specs.Prelude.{◌≡◌, List}
 use Rattle.ini.specs.Documents.{Document}
-use Rattle.ini_dialect.specs.Rules.{default_lookup}
+use Rattle.ini_dialect.specs.declared.rule.Lookup.{Lookup}
 use Rattle.ini_edit.specs.Sources.{Pieces, document_in}
 use Rattle.ini_layers.specs.Applying.{HasChanged, LeadsTo}
 use Rattle.ini_layers.specs.Differences.{SettingChange}
@@ -13,18 +13,19 @@ use Rattle.ini_c.specs.Texts.{Asks}
 use Rattle.ini_c.specs.declared.options.WriteChoice.{WriteChoice}
 
 -- the changes that C gives
-pub record AreMadeOf (choice : WriteChoice) (given : List SettingChange) (old new : Pieces) : Type 0 where
-  pub made : Asks choice (λ w. AreMade default_lookup w old given new)
-  pub values : HasChanged default_lookup given (document_in old) (document_in new)
-  pub leads : LeadsTo default_lookup given (document_in old) (document_in new)
+pub record AreMadeOf (rule : Lookup) (choice : WriteChoice) (given : List SettingChange) (old new : Pieces)
+    : Type 0 where
+  pub made : Asks choice (λ w. AreMade rule w old given new)
+  pub values : HasChanged rule given (document_in old) (document_in new)
+  pub leads : LeadsTo rule given (document_in old) (document_in new)
 
 -- the merge of two documents with theirs
-pub record IsMergeOf (choice : WriteChoice) (side : Side) (base ours : Document) (old new : Pieces)
-    : Type 0 where
-  pub merged : IsMerged default_lookup side base ours (document_in old) (document_in new)
+pub record IsMergeOf (rule : Lookup) (choice : WriteChoice) (side : Side) (base ours : Document)
+    (old new : Pieces) : Type 0 where
+  pub merged : IsMerged rule side base ours (document_in old) (document_in new)
   pub made : Asks choice
-      (λ w. AreMade default_lookup w old (taken_under default_lookup side base ours (document_in old)) new)
-  pub ours_is_base : AlikeUnder default_lookup base ours → new ≡ old
-  pub theirs_is_base : AlikeUnder default_lookup base (document_in old)
-      → AlikeUnder default_lookup ours (document_in new)
-  pub both_alike : AlikeUnder default_lookup ours (document_in old) → new ≡ old
+      (λ w. AreMade rule w old (taken_under rule side base ours (document_in old)) new)
+  pub ours_is_base : AlikeUnder rule base ours → new ≡ old
+  pub theirs_is_base : AlikeUnder rule base (document_in old)
+      → AlikeUnder rule ours (document_in new)
+  pub both_alike : AlikeUnder rule ours (document_in old) → new ≡ old

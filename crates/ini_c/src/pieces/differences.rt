@@ -9,7 +9,7 @@ ghost use Rattle.ini_layers.specs.Applying.{HasChanged, LeadsTo};
 ghost use Rattle.ini_layers.specs.Differences.{difference, setting_change};
 ghost use Rattle.ini_layers.specs.SourceChanges.{AreMade};
 ghost use Rattle.ini_c.specs.Changes.{AreChangesGiven, RefusesAt, changes_given, changes_listed};
-ghost use Rattle.ini_c.specs.Changes.{difference_in, with_change};
+ghost use Rattle.ini_c.specs.Changes.{RefusesUnder, difference_in, difference_in_under, with_change};
 ghost use Rattle.ini_c.specs.Held.{document_of, pieces_of};
 ghost use Rattle.ini_c.specs.Inside.Gathered.{contents};
 ghost use Rattle.ini_c.specs.Inside.MadeChanges.{AreMadeOf};
@@ -23,8 +23,9 @@ use crate::document::Text;
 use crate::listing::Listing;
 use crate::options::WriteChoice;
 use crate::pieces::changes::changes_given;
-use crate::pieces::documents::to_document;
+use crate::pieces::documents::document_under;
 use crate::refusal::status_of;
+use crate::rule::OWN;
 use crate::{NO_DOCUMENT, NO_MEMORY, OK};
 use ini::{Error, Ini};
 use ini_dialect::Lookup;
@@ -64,6 +65,48 @@ fn list_difference(alloc: Global, from: &Ini, to: &Ini) -> Result<Listing, Error
     Ok(list_changes(alloc, changes.as_slice())?)
 }
 
+// The difference of two texts under a rule, as `bigrosk_ini_text_diff` lists it.
+pub(crate) fn diff_under(
+    alloc: Global,
+    rule: Lookup,
+    from: &mut Text,
+    to: &mut Text,
+    bytes: &mut [u8],
+    counts: &mut [usize],
+    sizes: &mut Sizes,
+) -> u32
+    ensures from_stays { pieces_of from.new ≡ pieces_of from.old }
+    ensures to_stays { pieces_of to.new ≡ pieces_of to.old }
+    ensures no_document { result ≡ no_document
+        ↔ (difference_in_under rule (document_of from.old) (document_of to.old) ≡ None) }
+    ensures listed { result ≡ ok → option_map changes_listed
+        (difference_in_under rule (document_of from.old) (document_of to.old))
+        ≡ Some (copied_listing sizes.new bytes.new counts.new) }
+    ensures sizes { result ≡ no_room → IsSomeAnd (option_map changes_listed
+        (difference_in_under rule (document_of from.old) (document_of to.old))) (AreSizesOf sizes.new) }
+    ensures no_room { result ≡ no_room → fits sizes.new bytes.old counts.old ≡ false }
+    ensures bytes_stay { ¬ (result ≡ ok) → bytes.new ≡ bytes.old }
+    ensures counts_stay { ¬ (result ≡ ok) → counts.new ≡ counts.old }
+    ensures statuses { IsTrue (is_among result (ok ∷ no_room ∷ no_memory ∷ no_document ∷ [])) }
+{
+    let Some(from) = from.tied() else {
+        return NO_DOCUMENT;
+    };
+    let Some(to) = to.tied() else {
+        return NO_DOCUMENT;
+    };
+    let Ok(from) = from.with(|source| document_under(alloc, rule, source)) else {
+        return NO_MEMORY;
+    };
+    let Ok(to) = to.with(|source| document_under(alloc, rule, source)) else {
+        return NO_MEMORY;
+    };
+    let Ok(listing) = list_difference(alloc, &from, &to) else {
+        return NO_MEMORY;
+    };
+    give_listing(&listing, bytes, counts, sizes)
+}
+
 /// Lists the settings whose values differ between two texts, each once, as `bigrosk_ini_text_get_all` copies
 /// values: of each the name of its section, its key, its value in the first text and in the second. What is
 /// missing (the general section's name, a value) has no byte, and the greatest number as its count. Those of
@@ -91,28 +134,14 @@ pub extern "C" fn bigrosk_ini_text_diff(
     ensures counts_stay { ¬ (result ≡ ok) → counts.new ≡ counts.old }
     ensures statuses { IsTrue (is_among result (ok ∷ no_room ∷ no_memory ∷ no_document ∷ [])) }
 {
-    let Some(from) = from.tied() else {
-        return NO_DOCUMENT;
-    };
-    let Some(to) = to.tied() else {
-        return NO_DOCUMENT;
-    };
-    let Ok(from) = from.with(|source| to_document(alloc, source)) else {
-        return NO_MEMORY;
-    };
-    let Ok(to) = to.with(|source| to_document(alloc, source)) else {
-        return NO_MEMORY;
-    };
-    let Ok(listing) = list_difference(alloc, &from, &to) else {
-        return NO_MEMORY;
-    };
-    give_listing(&listing, bytes, counts, sizes)
+    diff_under(alloc, OWN, from, to, bytes, counts, sizes)
 }
 
-// Makes the changes that C gives in the pieces of a text, all or none; the status of that, and the index of
-// the change that is refused.
+// Makes the changes that C gives in the pieces of a text under a rule, all or none; the status of that, and
+// the index of the change that is refused.
 fn apply_given(
     alloc: Global,
+    rule: Lookup,
     source: &mut Source<'_>,
     write: &WriteChoice,
     bytes: &[u8],
@@ -123,15 +152,15 @@ fn apply_given(
     ensures given { ¬ (IsTrue (is_among result (not_utf8 ∷ no_memory ∷ [])))
         → AreChangesGiven bytes.now counts.now }
     ensures made { result ≡ ok
-        → AreMadeOf write.now (changes_given bytes.now counts.now) source.old source.new }
+        → AreMadeOf rule write.now (changes_given bytes.now counts.now) source.old source.new }
     ensures unplain_value { result ≡ unplain_value
-        → RefusesAt write.now source.old (changes_given bytes.now counts.now) refused.new Value }
+        → RefusesUnder rule write.now source.old (changes_given bytes.now counts.now) refused.new Value }
     ensures unplain_key { result ≡ unplain_key
-        → RefusesAt write.now source.old (changes_given bytes.now counts.now) refused.new Key }
+        → RefusesUnder rule write.now source.old (changes_given bytes.now counts.now) refused.new Key }
     ensures unplain_name { result ≡ unplain_name
-        → RefusesAt write.now source.old (changes_given bytes.now counts.now) refused.new Name }
+        → RefusesUnder rule write.now source.old (changes_given bytes.now counts.now) refused.new Name }
     ensures no_place { result ≡ no_place
-        → RefusesAt write.now source.old (changes_given bytes.now counts.now) refused.new NoPlace }
+        → RefusesUnder rule write.now source.old (changes_given bytes.now counts.now) refused.new NoPlace }
     ensures unchanged { ¬ (result ≡ ok) → source.new ≡ source.old }
     ensures refused_stays { IsTrue (is_among result (ok ∷ not_utf8 ∷ [])) → refused.new ≡ refused.old }
     ensures statuses { IsTrue (is_among result (ok ∷ not_utf8 ∷ no_memory
@@ -143,13 +172,7 @@ fn apply_given(
         Err(status) => return status,
     };
     let option = write.to_option();
-    match apply(
-        alloc,
-        Lookup::default(),
-        &option,
-        changes.as_slice(),
-        source,
-    ) {
+    match apply(alloc, rule, &option, changes.as_slice(), source) {
         Ok(new) => {
             source.replace_with(new);
             OK
@@ -159,6 +182,56 @@ fn apply_given(
             status_of(refusal.refusal)
         }
     }
+}
+
+// Makes the changes that C gives in a text under a rule, as `bigrosk_ini_text_apply` makes them.
+pub(crate) fn apply_under(
+    alloc: Global,
+    rule: Lookup,
+    text: &mut Text,
+    write: &WriteChoice,
+    bytes: &[u8],
+    counts: &[usize],
+    refused: &mut usize,
+) -> u32
+    ensures no_document { result ≡ no_document ↔ (pieces_of text.old ≡ None) }
+    ensures not_utf8 { result ≡ not_utf8
+        → (IsSome (pieces_of text.old) × ¬ AreChangesGiven bytes.now counts.now) }
+    ensures given { ¬ (IsTrue (is_among result (not_utf8 ∷ no_memory ∷ no_document ∷ [])))
+        → AreChangesGiven bytes.now counts.now }
+    ensures made { result ≡ ok → Changes
+        (λ old new. Asks write.now
+        (λ w. AreMade rule w old (changes_given bytes.now counts.now) new))
+        (pieces_of text.old) (pieces_of text.new) }
+    ensures values { result ≡ ok → Changes
+        (λ old new. HasChanged rule (changes_given bytes.now counts.now)
+        (document_in old) (document_in new))
+        (pieces_of text.old) (pieces_of text.new) }
+    ensures leads { result ≡ ok → Changes
+        (λ old new. LeadsTo rule (changes_given bytes.now counts.now)
+        (document_in old) (document_in new))
+        (pieces_of text.old) (pieces_of text.new) }
+    ensures unplain_value { result ≡ unplain_value → IsSomeAnd (pieces_of text.old)
+        (λ p. RefusesUnder rule write.now p (changes_given bytes.now counts.now) refused.new Value) }
+    ensures unplain_key { result ≡ unplain_key → IsSomeAnd (pieces_of text.old)
+        (λ p. RefusesUnder rule write.now p (changes_given bytes.now counts.now) refused.new Key) }
+    ensures unplain_name { result ≡ unplain_name → IsSomeAnd (pieces_of text.old)
+        (λ p. RefusesUnder rule write.now p (changes_given bytes.now counts.now) refused.new Name) }
+    ensures no_place { result ≡ no_place → IsSomeAnd (pieces_of text.old)
+        (λ p. RefusesUnder rule write.now p (changes_given bytes.now counts.now) refused.new NoPlace) }
+    ensures unchanged { ¬ (result ≡ ok) → pieces_of text.new ≡ pieces_of text.old }
+    ensures refused_stays { IsTrue (is_among result (ok ∷ not_utf8 ∷ no_document ∷ []))
+        → refused.new ≡ refused.old }
+    ensures statuses { IsTrue (is_among result (ok ∷ not_utf8 ∷ no_memory ∷ no_document
+        ∷ unplain_value ∷ unplain_key
+        ∷ no_place ∷ unplain_name ∷ [])) }
+{
+    let Some(tied) = text.tied() else {
+        return NO_DOCUMENT;
+    };
+    tied.with_both(refused, |source, refused| {
+        apply_given(alloc, rule, source, write, bytes, counts, refused)
+    })
 }
 
 /// Makes changes in a text, one after another, all or none, whatever values the settings have there: a
@@ -208,10 +281,5 @@ pub extern "C" fn bigrosk_ini_text_apply(
         ∷ unplain_value ∷ unplain_key
         ∷ no_place ∷ unplain_name ∷ [])) }
 {
-    let Some(tied) = text.tied() else {
-        return NO_DOCUMENT;
-    };
-    tied.with_both(refused, |source, refused| {
-        apply_given(alloc, source, write, bytes, counts, refused)
-    })
+    apply_under(alloc, OWN, text, write, bytes, counts, refused)
 }

@@ -1,14 +1,16 @@
 //! Two texts in pieces that changed one base: what both made of it, and where they are in conflict.
-ghost use Rattle.std.specs.Prelude.{◌≡◌, ◌∷◌, [], ◌↔◌, IfOk, IsSomeAnd, IsTrue, None, OnOk, Some, false, map};
+ghost use Rattle.std.specs.Prelude.{◌≡◌, ◌∷◌, [], ◌↔◌, IfOk, IfSome, IsSomeAnd, IsTrue, None, OnOk};
+ghost use Rattle.std.specs.Prelude.{Some, false, map};
 ghost use Rattle.std.specs.Option.{option_map};
 ghost use Rattle.ini_dialect.specs.Rules.{default_lookup};
 ghost use Rattle.ini_edit.specs.Sources.{document_in};
 ghost use Rattle.ini_edit.specs.declared.error.EditError.TheVariants.{Key, Name, NoPlace, Value};
-ghost use Rattle.ini_layers.specs.Merging.{IsMerged, setting_conflict, taken_under};
+ghost use Rattle.ini_layers.specs.Merging.{IsMerged, conflicts_under, setting_conflict, taken_under};
 ghost use Rattle.ini_layers.specs.Settings.{AlikeUnder};
 ghost use Rattle.ini_layers.specs.SourceChanges.{AreMade};
-ghost use Rattle.ini_c.specs.Changes.{Merges, RefusesAt, RefusesToMerge, conflicts_between, conflicts_in};
-ghost use Rattle.ini_c.specs.Changes.{conflicts_listed, side_if, with_conflict};
+ghost use Rattle.ini_c.specs.Changes.{Merges, RefusesToMerge, RefusesToMergeUnder, RefusesUnder};
+ghost use Rattle.ini_c.specs.Changes.{conflicts_in, conflicts_in_under, conflicts_listed, side_if};
+ghost use Rattle.ini_c.specs.Changes.{with_conflict};
 ghost use Rattle.ini_c.specs.Held.{document_of, pieces_of};
 ghost use Rattle.ini_c.specs.Inside.Gathered.{contents};
 ghost use Rattle.ini_c.specs.Inside.MadeChanges.{IsMergeOf};
@@ -24,6 +26,8 @@ use crate::options::WriteChoice;
 use crate::pieces::differences::push_change;
 use crate::pieces::documents::to_document;
 use crate::refusal::status_of;
+use crate::rule::OWN;
+use crate::tied::Tied;
 use crate::{NO_DOCUMENT, NO_MEMORY, OK};
 use ini::{Error, Ini};
 use ini_dialect::Lookup;
@@ -52,14 +56,89 @@ fn list_conflicts(alloc: Global, conflicts: &[Conflict<'_>]) -> Result<Listing, 
     Ok(listing)
 }
 
-// The conflicts of a document and a text with their base.
-fn list_all(alloc: Global, base: &Ini, ours: &Ini, theirs: &Source<'_>) -> Result<Listing, Error>
+// The conflicts of a document and a text with their base, under a rule.
+fn list_all(
+    alloc: Global,
+    rule: Lookup,
+    base: &Ini,
+    ours: &Ini,
+    theirs: &Source<'_>,
+) -> Result<Listing, Error>
     ensures { IfOk result (λ listing. contents listing ≡ conflicts_listed
-        (conflicts_between base.now ours.now (document_in theirs.now))) }
+        (conflicts_under rule base.now ours.now (document_in theirs.now))) }
 {
-    let sides = FlatSides::new(alloc, Lookup::default(), base, ours, theirs)?;
+    let sides = FlatSides::new(alloc, rule, base, ours, theirs)?;
     let found = sides.conflicts(alloc)?;
     Ok(list_conflicts(alloc, found.as_slice())?)
+}
+
+// The same of texts that are open; `None` when out of memory.
+fn list_between(
+    alloc: Global,
+    rule: Lookup,
+    base: &mut Tied,
+    ours: &mut Tied,
+    theirs: &mut Tied,
+) -> Option<Listing>
+    ensures base_stays { base.new.value ≡ base.old.value }
+    ensures ours_stay { ours.new.value ≡ ours.old.value }
+    ensures theirs_stay { theirs.new.value ≡ theirs.old.value }
+    ensures listed { IfSome result (λ listing. contents listing ≡ conflicts_listed (conflicts_under rule
+        (document_in base.old.value) (document_in ours.old.value) (document_in theirs.old.value))) }
+{
+    let Ok(base) = base.with(|source| to_document(alloc, source)) else {
+        return None;
+    };
+    let Ok(ours) = ours.with(|source| to_document(alloc, source)) else {
+        return None;
+    };
+    let Ok(listing) = theirs.with(|theirs| list_all(alloc, rule, &base, &ours, theirs)) else {
+        return None;
+    };
+    Some(listing)
+}
+
+// The conflicts of two texts with their base under a rule, as `bigrosk_ini_text_conflicts` lists them.
+pub(crate) fn conflicts_between(
+    alloc: Global,
+    rule: Lookup,
+    base: &mut Text,
+    ours: &mut Text,
+    theirs: &mut Text,
+    bytes: &mut [u8],
+    counts: &mut [usize],
+    sizes: &mut Sizes,
+) -> u32
+    ensures base_stays { pieces_of base.new ≡ pieces_of base.old }
+    ensures ours_stay { pieces_of ours.new ≡ pieces_of ours.old }
+    ensures theirs_stay { pieces_of theirs.new ≡ pieces_of theirs.old }
+    ensures no_document { result ≡ no_document
+        ↔ (conflicts_in_under rule (document_of base.old) (document_of ours.old) (document_of theirs.old)
+        ≡ None) }
+    ensures listed { result ≡ ok → option_map conflicts_listed
+        (conflicts_in_under rule (document_of base.old) (document_of ours.old) (document_of theirs.old))
+        ≡ Some (copied_listing sizes.new bytes.new counts.new) }
+    ensures sizes { result ≡ no_room → IsSomeAnd (option_map conflicts_listed
+        (conflicts_in_under rule (document_of base.old) (document_of ours.old) (document_of theirs.old)))
+        (AreSizesOf sizes.new) }
+    ensures no_room { result ≡ no_room → fits sizes.new bytes.old counts.old ≡ false }
+    ensures bytes_stay { ¬ (result ≡ ok) → bytes.new ≡ bytes.old }
+    ensures counts_stay { ¬ (result ≡ ok) → counts.new ≡ counts.old }
+    ensures statuses { IsTrue (is_among result (ok ∷ no_room ∷ no_memory ∷ no_document ∷ [])) }
+{
+    let Some(base) = base.tied() else {
+        return NO_DOCUMENT;
+    };
+    let Some(ours) = ours.tied() else {
+        return NO_DOCUMENT;
+    };
+    let Some(theirs) = theirs.tied() else {
+        return NO_DOCUMENT;
+    };
+    let Some(listing) = list_between(alloc, rule, base, ours, theirs) else {
+        return NO_MEMORY;
+    };
+    give_listing(&listing, bytes, counts, sizes)
 }
 
 /// Lists the settings that `ours` and `theirs` both changed in `base`, to different values, in the order of
@@ -90,6 +169,109 @@ pub extern "C" fn bigrosk_ini_text_conflicts(
     ensures counts_stay { ¬ (result ≡ ok) → counts.new ≡ counts.old }
     ensures statuses { IsTrue (is_among result (ok ∷ no_room ∷ no_memory ∷ no_document ∷ [])) }
 {
+    conflicts_between(alloc, OWN, base, ours, theirs, bytes, counts, sizes)
+}
+
+// The side whose value stands.
+fn side_of(take_ours: bool) -> Side
+    ensures { result ≡ side_if take_ours }
+{
+    if take_ours { Side::Ours } else { Side::Theirs }
+}
+
+// Makes what `ours` changed in `base` in `theirs` under a rule; the status of that, and the index of the
+// change that is refused.
+fn merge_into(
+    alloc: Global,
+    rule: Lookup,
+    base: &Ini,
+    ours: &Ini,
+    theirs: &mut Source<'_>,
+    write: &WriteChoice,
+    take_ours: bool,
+    refused: &mut usize,
+) -> u32
+    ensures made { result ≡ ok
+        → IsMergeOf rule write.now (side_if take_ours) base.now ours.now theirs.old theirs.new }
+    ensures unplain_value { result ≡ unplain_value
+        → RefusesUnder rule write.now theirs.old (taken_under rule (side_if take_ours) base.now ours.now
+        (document_in theirs.old)) refused.new Value }
+    ensures unplain_key { result ≡ unplain_key
+        → RefusesUnder rule write.now theirs.old (taken_under rule (side_if take_ours) base.now ours.now
+        (document_in theirs.old)) refused.new Key }
+    ensures unplain_name { result ≡ unplain_name
+        → RefusesUnder rule write.now theirs.old (taken_under rule (side_if take_ours) base.now ours.now
+        (document_in theirs.old)) refused.new Name }
+    ensures no_place { result ≡ no_place
+        → RefusesUnder rule write.now theirs.old (taken_under rule (side_if take_ours) base.now ours.now
+        (document_in theirs.old)) refused.new NoPlace }
+    ensures unchanged { ¬ (result ≡ ok) → theirs.new ≡ theirs.old }
+    ensures refused_stays { result ≡ ok → refused.new ≡ refused.old }
+    ensures statuses { IsTrue (is_among result (ok ∷ no_memory
+        ∷ unplain_value ∷ unplain_key
+        ∷ no_place ∷ unplain_name ∷ [])) }
+{
+    let option = write.to_option();
+    let side = side_of(take_ours);
+    match merge(alloc, rule, &option, base, ours, theirs, side) {
+        Ok(new) => {
+            theirs.replace_with(new);
+            OK
+        }
+        Err(refusal) => {
+            *refused = refusal.index;
+            status_of(refusal.refusal)
+        }
+    }
+}
+
+// Makes what `ours` changed in `base` in `theirs` under a rule, as `bigrosk_ini_text_merge3` does.
+pub(crate) fn merge_under(
+    alloc: Global,
+    rule: Lookup,
+    base: &mut Text,
+    ours: &mut Text,
+    theirs: &mut Text,
+    write: &WriteChoice,
+    take_ours: bool,
+    refused: &mut usize,
+) -> u32
+    ensures base_stays { pieces_of base.new ≡ pieces_of base.old }
+    ensures ours_stay { pieces_of ours.new ≡ pieces_of ours.old }
+    ensures no_document { result ≡ no_document
+        ↔ (conflicts_in_under rule (document_of base.old) (document_of ours.old) (document_of theirs.old)
+        ≡ None) }
+    ensures merged { result ≡ ok → Merges (λ base ours old new.
+        IsMerged rule (side_if take_ours) base ours (document_in old) (document_in new))
+        (document_of base.old) (document_of ours.old) (pieces_of theirs.old) (pieces_of theirs.new) }
+    ensures made { result ≡ ok → Merges (λ base ours old new. Asks write.now
+        (λ w. AreMade rule w old
+        (taken_under rule (side_if take_ours) base ours (document_in old)) new))
+        (document_of base.old) (document_of ours.old) (pieces_of theirs.old) (pieces_of theirs.new) }
+    ensures ours_is_base { result ≡ ok → Merges
+        (λ base ours old new. AlikeUnder rule base ours → new ≡ old)
+        (document_of base.old) (document_of ours.old) (pieces_of theirs.old) (pieces_of theirs.new) }
+    ensures theirs_is_base { result ≡ ok → Merges
+        (λ base ours old new. AlikeUnder rule base (document_in old)
+        → AlikeUnder rule ours (document_in new))
+        (document_of base.old) (document_of ours.old) (pieces_of theirs.old) (pieces_of theirs.new) }
+    ensures both_alike { result ≡ ok → Merges
+        (λ base ours old new. AlikeUnder rule ours (document_in old) → new ≡ old)
+        (document_of base.old) (document_of ours.old) (pieces_of theirs.old) (pieces_of theirs.new) }
+    ensures unplain_value { result ≡ unplain_value → RefusesToMergeUnder rule write.now (side_if take_ours)
+        (document_of base.old) (document_of ours.old) (pieces_of theirs.old) refused.new Value }
+    ensures unplain_key { result ≡ unplain_key → RefusesToMergeUnder rule write.now (side_if take_ours)
+        (document_of base.old) (document_of ours.old) (pieces_of theirs.old) refused.new Key }
+    ensures unplain_name { result ≡ unplain_name → RefusesToMergeUnder rule write.now (side_if take_ours)
+        (document_of base.old) (document_of ours.old) (pieces_of theirs.old) refused.new Name }
+    ensures no_place { result ≡ no_place → RefusesToMergeUnder rule write.now (side_if take_ours)
+        (document_of base.old) (document_of ours.old) (pieces_of theirs.old) refused.new NoPlace }
+    ensures unchanged { ¬ (result ≡ ok) → pieces_of theirs.new ≡ pieces_of theirs.old }
+    ensures refused_stays { IsTrue (is_among result (ok ∷ no_document ∷ [])) → refused.new ≡ refused.old }
+    ensures statuses { IsTrue (is_among result (ok ∷ no_memory ∷ no_document
+        ∷ unplain_value ∷ unplain_key
+        ∷ no_place ∷ unplain_name ∷ [])) }
+{
     let Some(base) = base.tied() else {
         return NO_DOCUMENT;
     };
@@ -105,62 +287,9 @@ pub extern "C" fn bigrosk_ini_text_conflicts(
     let Ok(ours) = ours.with(|source| to_document(alloc, source)) else {
         return NO_MEMORY;
     };
-    let Ok(listing) = theirs.with(|theirs| list_all(alloc, &base, &ours, theirs)) else {
-        return NO_MEMORY;
-    };
-    give_listing(&listing, bytes, counts, sizes)
-}
-
-// The side whose value stands.
-fn side_of(take_ours: bool) -> Side
-    ensures { result ≡ side_if take_ours }
-{
-    if take_ours { Side::Ours } else { Side::Theirs }
-}
-
-// Makes what `ours` changed in `base` in `theirs`; the status of that, and the index of the change that is
-// refused.
-fn merge_into(
-    alloc: Global,
-    base: &Ini,
-    ours: &Ini,
-    theirs: &mut Source<'_>,
-    write: &WriteChoice,
-    take_ours: bool,
-    refused: &mut usize,
-) -> u32
-    ensures made { result ≡ ok
-        → IsMergeOf write.now (side_if take_ours) base.now ours.now theirs.old theirs.new }
-    ensures unplain_value { result ≡ unplain_value
-        → RefusesAt write.now theirs.old (taken_under default_lookup (side_if take_ours) base.now ours.now
-        (document_in theirs.old)) refused.new Value }
-    ensures unplain_key { result ≡ unplain_key
-        → RefusesAt write.now theirs.old (taken_under default_lookup (side_if take_ours) base.now ours.now
-        (document_in theirs.old)) refused.new Key }
-    ensures unplain_name { result ≡ unplain_name
-        → RefusesAt write.now theirs.old (taken_under default_lookup (side_if take_ours) base.now ours.now
-        (document_in theirs.old)) refused.new Name }
-    ensures no_place { result ≡ no_place
-        → RefusesAt write.now theirs.old (taken_under default_lookup (side_if take_ours) base.now ours.now
-        (document_in theirs.old)) refused.new NoPlace }
-    ensures unchanged { ¬ (result ≡ ok) → theirs.new ≡ theirs.old }
-    ensures refused_stays { result ≡ ok → refused.new ≡ refused.old }
-    ensures statuses { IsTrue (is_among result (ok ∷ no_memory
-        ∷ unplain_value ∷ unplain_key
-        ∷ no_place ∷ unplain_name ∷ [])) }
-{
-    let option = write.to_option();
-    let (rule, side) = (Lookup::default(), side_of(take_ours));
-    match merge(alloc, rule, &option, base, ours, theirs, side) {
-        Ok(new) => {
-            theirs.replace_with(new);
-            OK
-        }
-        Err(refusal) => {
-            *refused = refusal.index;
-            status_of(refusal.refusal)
-        }
-    }
+    theirs.with_both(refused, |theirs, refused| {
+        merge_into(alloc, rule, &base, &ours, theirs, write, take_ours, refused)
+    })
 }
 
 /// Makes what `ours` changed in `base` in `theirs`: each setting that only one side changed has that side's
@@ -214,22 +343,5 @@ pub extern "C" fn bigrosk_ini_text_merge3(
         ∷ unplain_value ∷ unplain_key
         ∷ no_place ∷ unplain_name ∷ [])) }
 {
-    let Some(base) = base.tied() else {
-        return NO_DOCUMENT;
-    };
-    let Some(ours) = ours.tied() else {
-        return NO_DOCUMENT;
-    };
-    let Some(theirs) = theirs.tied() else {
-        return NO_DOCUMENT;
-    };
-    let Ok(base) = base.with(|source| to_document(alloc, source)) else {
-        return NO_MEMORY;
-    };
-    let Ok(ours) = ours.with(|source| to_document(alloc, source)) else {
-        return NO_MEMORY;
-    };
-    theirs.with_both(refused, |theirs, refused| {
-        merge_into(alloc, &base, &ours, theirs, write, take_ours, refused)
-    })
+    merge_under(alloc, OWN, base, ours, theirs, write, take_ours, refused)
 }

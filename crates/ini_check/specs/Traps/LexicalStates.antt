@@ -12,8 +12,7 @@ use Rattle.ini.specs.Texts.{Text}
 use Rattle.ini_check.specs.declared.lexical.LexicalState.{LexicalState}
 use Rattle.ini_check.specs.declared.lexical.LexicalState.TheVariants.{AfterQuote, Front, LineFront, Note}
 use Rattle.ini_check.specs.declared.lexical.LexicalState.TheVariants.{Plain, PlainBlank, PlainEscape, Quoted}
-use Rattle.ini_check.specs.declared.lexical.LexicalState.TheVariants.{QuotedEscape, Trailing}
-use Rattle.ini_check.specs.declared.lexical.LexicalState.TheVariants.{TrailingBlank}
+use Rattle.ini_check.specs.declared.lexical.LexicalState.TheVariants.{QuotedEscape, Trailing, TrailingBlank}
 
 -- the character is a blank, and an inline comment begins the text behind it
 abbrev pub is_before_comment : ParseOption → ℕ → Text → Bool

@@ -2,9 +2,8 @@
 -- from there on.
 use Rattle.std.specs.Prelude.{◌&&◌, ◌||◌, ◌==◌, not, Bool, true, false, [], ◌∷◌, ℕ, nat_lt, if◌then◌else◌}
 use Rattle.std.specs.Char.{is_ascii_alphanumeric, is_whitespace}
-use Rattle.ini_text.specs.Grammar.CharacterKinds.{carriage_return, close_bracket, colon, equals}
-use Rattle.ini_text.specs.Grammar.CharacterKinds.{is_blank, is_comment_mark, is_line_end, line_feed}
-use Rattle.ini_text.specs.Grammar.CharacterKinds.{open_bracket}
+use Rattle.ini_text.specs.Grammar.CharacterKinds.{carriage_return, close_bracket, colon, equals, is_blank}
+use Rattle.ini_text.specs.Grammar.CharacterKinds.{is_comment_mark, is_line_end, line_feed, open_bracket}
 use Rattle.ini_text.specs.Options.Backslashes.{begins_escape}
 use Rattle.ini_text.specs.Options.ReadOptions.{backslash_of}
 use Rattle.ini_text.specs.declared.option.ParseOption.{ParseOption}

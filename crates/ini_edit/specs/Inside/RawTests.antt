@@ -1,8 +1,7 @@
 -- The test of a raw value, computed.
 use Rattle.std.specs.Prelude.{Bool, true, false, not, ◌&&◌, ◌||◌}
 use Rattle.std.specs.List.{list_all}
-use Rattle.ini_text.specs.Grammar.CharacterKinds.{is_line_end, is_quote_mark}
-use Rattle.ini_text.specs.Grammar.CharacterKinds.{begins}
+use Rattle.ini_text.specs.Grammar.CharacterKinds.{is_line_end, is_quote_mark, begins}
 use Rattle.ini_text.specs.Inside.PlainTests.{escapes_nothing, is_trimmed}
 use Rattle.ini_text.specs.declared.option.ParseOption.{ParseOption}
 use Rattle.ini_text.specs.declared.write.policy.EscapePolicy.{EscapePolicy}

@@ -28,14 +28,11 @@ use Rattle.ini_edit.specs.SourceEditsDelete.{empty_comment, ends_in_value, gap_a
 use Rattle.ini_edit.specs.SourceEditsDelete.{rest_put, to_line_feed}
 use Rattle.ini_edit.specs.SourceEditsSections.{after_new_section, section_put}
 use Rattle.ini_edit.specs.SourceLines.{after_line_end, is_empty}
-use Rattle.ini_edit.specs.SourcePlaces.{PairPlace, Place, exchanged, gap_put, last_before_gap}
-use Rattle.ini_edit.specs.SourcePlaces.{last_changed}
-use Rattle.ini_edit.specs.SourcePlaces.{last_gap, nth_place}
-use Rattle.ini_edit.specs.SourcePlaces.{last_word, with_after, with_end, with_last_word}
+use Rattle.ini_edit.specs.SourcePlaces.{PairPlace, Place, exchanged, gap_put, last_before_gap, last_changed}
+use Rattle.ini_edit.specs.SourcePlaces.{last_gap, nth_place, last_word, with_after, with_end, with_last_word}
 use Rattle.ini_edit.specs.Quotes.{written_in}
 use Rattle.ini_edit.specs.SourceWritten.{IsReadAs, IsWrittenInPlace, Style, last_that_begins}
-use Rattle.ini_edit.specs.SourceWritten.{last_that_begins_in}
-use Rattle.ini_edit.specs.SourceWritten.{new_pair, option_style, style_like}
+use Rattle.ini_edit.specs.SourceWritten.{last_that_begins_in, new_pair, option_style, style_like}
 use Rattle.ini_edit.specs.Sources.{PairPiece, Pieces, SectionPiece, sections_text}
 use Rattle.ini_edit.specs.declared.error.EditError.{EditError}
 use Rattle.ini_edit.specs.declared.error.EditError.TheVariants.{Name, NoPlace, Text as TextError}

@@ -1,7 +1,6 @@
 -- How an edit is read: a character, or an escape of one, after another.
 use Rattle.std.specs.Prelude.{◌≡◌, ◌+◌, ◌-◌, ℕ, Bool, true, false, ◌&&◌, ◌||◌, ◌==◌, nat_le, if◌then◌else◌}
-use Rattle.std.specs.Prelude.{[], ◌∷◌, ⊤}
-use Rattle.std.specs.Prelude.{Option, None, Some, option_and_then}
+use Rattle.std.specs.Prelude.{[], ◌∷◌, ⊤, Option, None, Some, option_and_then}
 use Rattle.std.specs.Option.{option_map}
 use Rattle.ini_text.specs.Escaping.Policies.{is_basic}
 use Rattle.ini_text.specs.Grammar.CharacterKinds.{backslash, letter_x}

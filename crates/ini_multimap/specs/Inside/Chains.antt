@@ -1,8 +1,7 @@
 -- The chains of the codes: which slots follow one another, and how links and ends say it. Private functions
 -- say it.
-use Rattle.std.specs.Prelude.{◌≡◌, ◌≢◌, ℕ, suc, ◌<◌, ◌≤◌, if◌then◌else◌, nat_eq}
-use Rattle.std.specs.Prelude.{unwrap_or, List, length, map, Option, Some, None, MatchOption, IfSome}
-use Rattle.std.specs.Prelude.{vec_len, vec_capacity}
+use Rattle.std.specs.Prelude.{◌≡◌, ◌≢◌, ℕ, suc, ◌<◌, ◌≤◌, if◌then◌else◌, nat_eq, unwrap_or, List, length, map}
+use Rattle.std.specs.Prelude.{Option, Some, None, MatchOption, IfSome, vec_len, vec_capacity}
 use Rattle.std.specs.Option.{option_map}
 use Rattle.std.specs.Global.{Box}
 use Rattle.std.specs.HashMap.{get, spare}

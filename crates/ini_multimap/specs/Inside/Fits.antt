@@ -1,7 +1,6 @@
 -- Which slots hold pairs, and pairs that fit. Private functions say it.
-use Rattle.std.specs.Prelude.{◌≡◌, ℕ, zero, suc, ◌+◌, ◌-◌, ◌<◌, ◌≤◌, Bool, true, false, if◌then◌else◌}
-use Rattle.std.specs.Prelude.{List, [], ◌∷◌, ◌++◌, length, take, drop, Option, Some, None}
-use Rattle.std.specs.Prelude.{MatchOption, IfSome}
+use Rattle.std.specs.Prelude.{◌≡◌, ℕ, zero, suc, ◌+◌, ◌-◌, ◌<◌, ◌≤◌, Bool, true, false, if◌then◌else◌, List}
+use Rattle.std.specs.Prelude.{[], ◌∷◌, ◌++◌, length, take, drop, Option, Some, None, MatchOption, IfSome}
 use Rattle.std.specs.Option.{option_map}
 use Rattle.ini_multimap.specs.Pairs.{without, fresh}
 use Rattle.ini_multimap.specs.Slots.{Columns, with_cell, pairs_in}

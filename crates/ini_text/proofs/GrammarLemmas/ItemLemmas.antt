@@ -1,5 +1,6 @@
 -- From one element to the next, up to an item.
-use Rattle.std.proofs.Common.{◌≡◌, ◌<◌, ◌≤◌, ℕ, List, [], ◌∷◌, ◌++◌, length, sym, ap, ◌∙◌, append_assoc, append-nil, subst, subst₂, chars, arith, length-append}
+use Rattle.std.proofs.Common.{◌≡◌, ◌<◌, ◌≤◌, ℕ, List, [], ◌∷◌, ◌++◌, length, sym, ap, ◌∙◌, append_assoc}
+use Rattle.std.proofs.Common.{append-nil, subst, subst₂, chars, arith, length-append}
 use Rattle.ini_text.specs.Grammar.CharacterKinds.{is_blank}
 use Rattle.ini_text.specs.Grammar.Elements.{Given, Gap, Element, ElementStops}
 use Rattle.ini_text.specs.Grammar.Lines.{Note}

@@ -2,7 +2,8 @@
 use Rattle.std.proofs.Common.{◌≡◌, ℕ, true, false, eqb-true, inl, inr, refl, ◌==◌}
 use Rattle.std.proofs.lemmas.Bool.{both_ways, false_from_ne_true, or_cases}
 use Rattle.std.specs.Char.{is_whitespace}
-use Rattle.ini_text.specs.Grammar.CharacterKinds.{semicolon, hash, open_bracket, is_blank, is_line_end, is_comment_mark, is_inline_white}
+use Rattle.ini_text.specs.Grammar.CharacterKinds.{semicolon, hash, open_bracket, is_blank, is_line_end}
+use Rattle.ini_text.specs.Grammar.CharacterKinds.{is_comment_mark, is_inline_white}
 
 pub blank_is_white : (c : ℕ) → is_blank c ≡ true → is_whitespace c ≡ true
 blank_is_white c h = elim (or_cases (c == 32) (c == 9) h)

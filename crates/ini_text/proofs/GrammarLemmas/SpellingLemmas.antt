@@ -1,5 +1,6 @@
 -- Four digits and the character that they spell.
-use Rattle.std.proofs.Common.{◌≡◌, ◌≢◌, ℕ, Bool, true, false, cond, eqb, refl, sym, ap, ◌∙◌, subst, ◌&&◌, ◌||◌, ◌+◌, ◌*◌, ◌<◌, SomeIff, arith, lt-ltb, Option, Some, None, eq-eqb, ne_eqb}
+use Rattle.std.proofs.Common.{◌≡◌, ◌≢◌, ℕ, Bool, true, false, cond, eqb, refl, sym, ap, ◌∙◌, subst, ◌&&◌}
+use Rattle.std.proofs.Common.{◌||◌, ◌+◌, ◌*◌, ◌<◌, SomeIff, arith, lt-ltb, Option, Some, None, eq-eqb, ne_eqb}
 use Rattle.std.proofs.Math.Bool.{or-true}
 use Rattle.std.proofs.lemmas.Bool.{cond-true, cond-false}
 use lib.Utf8.{scalar}

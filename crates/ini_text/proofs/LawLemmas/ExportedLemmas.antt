@@ -8,7 +8,8 @@ pub use Rattle.ini_text.proofs.PlainLemmas.PlainPairLemmas.{pair_line}
 pub use Rattle.ini_text.proofs.PlainLemmas.PlainLineLemmas.{element_then_gaps-gives}
 pub use Rattle.ini_text.proofs.PlainLemmas.PlainPairLemmas.{pair_line-gives}
 -- and that what is written for texts of characters is made of characters
-pub use Rattle.ini_text.proofs.PlainLemmas.ScalarLemmas.{escaped-scalars, line_end-scalars, scalars-append, separator-scalars}
+pub use Rattle.ini_text.proofs.PlainLemmas.ScalarLemmas.{escaped-scalars, line_end-scalars, scalars-append}
+pub use Rattle.ini_text.proofs.PlainLemmas.ScalarLemmas.{separator-scalars}
 -- and a text after another one, with what follows a front
 pub use Rattle.ini_text.proofs.LawLemmas.MovedLemmas.{Reads-after, StopsAfter-after, is_column_one-after}
 pub use Rattle.ini_text.proofs.LawLemmas.OneAheadLemmas.{Reads-before}

@@ -1,13 +1,17 @@
 -- A text after another one: what is read of it stays, and its places move down.
-use Rattle.std.proofs.Common.{◌≡◌, ℕ, ◌+◌, Bool, true, ◌||◌, ◌&&◌, cond, List, [], ◌∷◌, ◌++◌, refl, sym, ap, ◌∙◌, subst, append_assoc, append-nil, length, length-append, arith, count_by, eqb, eqb-true}
+use Rattle.std.proofs.Common.{◌≡◌, ℕ, ◌+◌, Bool, true, ◌||◌, ◌&&◌, cond, List, [], ◌∷◌, ◌++◌, refl, sym, ap}
+use Rattle.std.proofs.Common.{◌∙◌, subst, append_assoc, append-nil, length, length-append, arith, count_by}
+use Rattle.std.proofs.Common.{eqb, eqb-true}
 use Rattle.std.proofs.lemmas.Bool.{cond-true, or_right, or_left, false≢true, not-false}
 use Rattle.std.specs.Char.{is_whitespace}
 use Rattle.std.proofs.lemmas.List.Sums.{sum_by-append}
 use Rattle.std.specs.List.{list_any}
 use Rattle.ini_text.specs.declared.option.ParseOption.{ParseOption}
 use Rattle.ini_text.specs.declared.error.ParseKind.{ParseKind}
-use Rattle.ini_text.specs.Grammar.CharacterKinds.{line_feed, open_bracket, is_blank, is_comment_mark, is_line_feed, is_line_end, BeginsWith}
-use Rattle.ini_text.specs.Grammar.Positions.{column_of, last_or, line_of, starts_line, is_column_one, last_line}
+use Rattle.ini_text.specs.Grammar.CharacterKinds.{line_feed, open_bracket, is_blank, is_comment_mark}
+use Rattle.ini_text.specs.Grammar.CharacterKinds.{is_line_feed, is_line_end, BeginsWith}
+use Rattle.ini_text.specs.Grammar.Positions.{column_of, last_or, line_of, starts_line, is_column_one}
+use Rattle.ini_text.specs.Grammar.Positions.{last_line}
 use Rattle.ini_text.specs.Grammar.Keys.{Indentation, KeyFront, begins_key}
 use Rattle.ini_text.specs.Grammar.Lines.{Note}
 use Rattle.ini_text.specs.Grammar.Elements.{Given, Gap, Element, ElementStops, may_have_note}

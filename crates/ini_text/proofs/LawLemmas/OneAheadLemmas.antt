@@ -1,10 +1,13 @@
 -- Reading looks one character ahead: an element stands before each text that begins with the character that
 -- followed it.
-use Rattle.std.proofs.Common.{◌≤◌, ◌≡◌, ℕ, Bool, List, [], ◌∷◌, ◌++◌, length, refl, sym, ap, ◌∙◌, subst, append_assoc, append-nil, arith}
+use Rattle.std.proofs.Common.{◌≤◌, ◌≡◌, ℕ, Bool, List, [], ◌∷◌, ◌++◌, length, refl, sym, ap, ◌∙◌, subst}
+use Rattle.std.proofs.Common.{append_assoc, append-nil, arith}
 use Rattle.std.proofs.lemmas.List.{append_cancel_left}
 use Rattle.ini_text.specs.Options.Backslashes.{Backslash}
 use Rattle.ini_text.specs.declared.option.ParseOption.{ParseOption}
-use Rattle.ini_text.specs.Grammar.CharacterKinds.{is_blank, is_comment_mark, is_inline_white, is_line_end, is_line_feed, is_quote_mark, is_separator, BeginsWith, BeginsWithNo}
+use Rattle.ini_text.specs.Grammar.CharacterKinds.{is_blank, is_comment_mark, is_inline_white, is_line_end}
+use Rattle.ini_text.specs.Grammar.CharacterKinds.{is_line_feed, is_quote_mark, is_separator, BeginsWith}
+use Rattle.ini_text.specs.Grammar.CharacterKinds.{BeginsWithNo}
 use Rattle.ini_text.specs.Grammar.WhiteSpace.{Lead}
 use Rattle.ini_text.specs.Grammar.Strings.{Ends, Str}
 use Rattle.ini_text.specs.Grammar.Lines.{Line, LineTail, LineText, Note}

@@ -1,5 +1,6 @@
 -- Each text has one outcome: reading it element by element finds what the grammar says, and nothing else.
-use Rattle.std.proofs.Common.{◌≤◌, ◌≡◌, inl, inr, ℕ, zero, suc, ◌-◌, ◌<◌, List, [], ◌∷◌, ◌++◌, length, take, refl, sym, ap, ◌∙◌, subst, append_assoc, append-nil, length-append, arith}
+use Rattle.std.proofs.Common.{◌≤◌, ◌≡◌, inl, inr, ℕ, zero, suc, ◌-◌, ◌<◌, List, [], ◌∷◌, ◌++◌, length, take}
+use Rattle.std.proofs.Common.{refl, sym, ap, ◌∙◌, subst, append_assoc, append-nil, length-append, arith}
 use Rattle.std.proofs.lemmas.List.{append_cancel_left, append_cancel_right, take_at}
 use Rattle.ini_text.specs.declared.option.ParseOption.{ParseOption}
 use Rattle.ini_text.specs.declared.error.ParseKind.{ParseKind}
@@ -10,7 +11,8 @@ use Rattle.ini_text.specs.Inside.ElementReader.{element}
 use Rattle.ini_text.specs.Inside.Reading.{Answer, found, stopped, prepend}
 use Rattle.ini_text.proofs.ReaderLemmas.ReaderLemmas.{prepend-nil, prepend-prepend, Says}
 use Rattle.ini_text.proofs.GrammarLemmas.ItemLemmas.{element-some}
-use Rattle.ini_text.proofs.ReaderLemmas.ElementReaderLemmas.{element-end, element-sound, element-finds, element-stops}
+use Rattle.ini_text.proofs.ReaderLemmas.ElementReaderLemmas.{element-end, element-sound, element-finds}
+use Rattle.ini_text.proofs.ReaderLemmas.ElementReaderLemmas.{element-stops}
 
 module _ (o : ParseOption) (T : List ℕ) where
   -- what comes of the text after the front b

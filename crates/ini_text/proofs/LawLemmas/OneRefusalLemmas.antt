@@ -1,11 +1,13 @@
 -- A stop at a character stands, whatever follows.
-use Rattle.std.proofs.Common.{◌≤◌, ◌≡◌, ◌≢◌, ℕ, Bool, true, false, List, [], ◌∷◌, ◌++◌, length, refl, sym, ap, ◌∙◌, subst, append_assoc, append-nil, length-append, arith}
+use Rattle.std.proofs.Common.{◌≤◌, ◌≡◌, ◌≢◌, ℕ, Bool, true, false, List, [], ◌∷◌, ◌++◌, length, refl, sym, ap}
+use Rattle.std.proofs.Common.{◌∙◌, subst, append_assoc, append-nil, length-append, arith}
 use Rattle.std.proofs.lemmas.List.{append_cancel_left}
 use Rattle.ini_text.specs.Options.Backslashes.{Backslash}
 use Rattle.ini_text.specs.declared.option.ParseOption.{ParseOption}
 use Rattle.ini_text.specs.declared.error.ParseKind.{ParseKind}
 use Rattle.ini_text.specs.declared.error.ParseKind.TheVariants.{EndOfText, CrAlone}
-use Rattle.ini_text.specs.Grammar.CharacterKinds.{carriage_return, line_feed, is_blank, is_line_feed, is_quote_mark, BeginsWithNo}
+use Rattle.ini_text.specs.Grammar.CharacterKinds.{carriage_return, line_feed, is_blank, is_line_feed}
+use Rattle.ini_text.specs.Grammar.CharacterKinds.{is_quote_mark, BeginsWithNo}
 use Rattle.ini_text.specs.Grammar.WhiteSpace.{without_outer_line_feeds}
 use Rattle.ini_text.specs.Grammar.EscapeSequences.{EscapeStops}
 use Rattle.ini_text.specs.Grammar.Strings.{Ends, StrStops}
@@ -19,7 +21,10 @@ use Rattle.ini_text.proofs.ReaderLemmas.ReaderLemmas.{Rule}
 use Rattle.ini_text.proofs.ReaderLemmas.RunReaderLemmas.{BeginsWith-some}
 use Rattle.ini_text.proofs.ReaderLemmas.ValueReaderLemmas.{EndedLine}
 use Rattle.ini_text.proofs.GrammarLemmas.ItemLemmas.{element-some}
-use Rattle.ini_text.proofs.LawLemmas.OneAheadLemmas.{Alike, Alike-some, BeginsWith-alike, BeginsWithNo-alike, Lead-alike, LineEnd-alike, EndedLine-before, Str-alike, KeyFront-alike, Reads-alike, GoesOn-alike, GoesOn-before, CommentLine-before}
+use Rattle.ini_text.proofs.LawLemmas.OneAheadLemmas.{Alike, Alike-some, BeginsWith-alike, BeginsWithNo-alike}
+use Rattle.ini_text.proofs.LawLemmas.OneAheadLemmas.{Lead-alike, LineEnd-alike, EndedLine-before, Str-alike}
+use Rattle.ini_text.proofs.LawLemmas.OneAheadLemmas.{KeyFront-alike, Reads-alike, GoesOn-alike, GoesOn-before}
+use Rattle.ini_text.proofs.LawLemmas.OneAheadLemmas.{CommentLine-before}
 
 -- What stops at a character has a source, and stops there before each x.
 EscapeStops-stands : {p r : List ℕ} {k : ParseKind} (x : List ℕ) → k ≢ EndOfText → EscapeStops p r k

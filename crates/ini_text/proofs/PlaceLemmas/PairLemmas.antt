@@ -1,5 +1,7 @@
 -- The stretches of a pair's source, from the rests that were found, and the element that they make.
-use Rattle.std.proofs.Common.{◌≡◌, ◌≢◌, ◌≤◌, ℕ, true, false, ◌||◌, ◌==◌, List, [], ◌∷◌, ◌++◌, drop, length, Option, None, Some, Result, Ok, Err, IfOk, refl, sym, ap, ◌∙◌, subst, subst₂, append_assoc, append-nil, length-append, arith, chars, true≢false}
+use Rattle.std.proofs.Common.{◌≡◌, ◌≢◌, ◌≤◌, ℕ, true, false, ◌||◌, ◌==◌, List, [], ◌∷◌, ◌++◌, drop, length}
+use Rattle.std.proofs.Common.{Option, None, Some, Result, Ok, Err, IfOk, refl, sym, ap, ◌∙◌, subst, subst₂}
+use Rattle.std.proofs.Common.{append_assoc, append-nil, length-append, arith, chars, true≢false}
 use Rattle.std.proofs.lemmas.Bool.{or_parts, not-true}
 use Rattle.std.proofs.lemmas.List.{append_cancel_right}
 use Rattle.std.specs.Borrow.{Bor}
@@ -18,16 +20,19 @@ use Rattle.ini_text.specs.declared.item.BorrowedItem.TheVariants as items
 use Rattle.ini_text.specs.declared.parser.placed.PlacedElement.{PlacedElement}
 use Rattle.ini_text.specs.declared.parser.rests.Rests.{Rests}
 use Rattle.ini_text.specs.Errors.Messages.{HasMessage}
-use Rattle.ini_text.specs.Grammar.CharacterKinds.{open_bracket, is_blank, is_comment_mark, is_inline_white, is_separator, BeginsWith, BeginsWithNo}
+use Rattle.ini_text.specs.Grammar.CharacterKinds.{open_bracket, is_blank, is_comment_mark, is_inline_white}
+use Rattle.ini_text.specs.Grammar.CharacterKinds.{is_separator, BeginsWith, BeginsWithNo}
 use Rattle.ini_text.specs.Grammar.Elements.{Given, Pair, Element, ElementStops}
 use Rattle.ini_text.specs.Grammar.Keys.{begins_key, begins_indented_key, KeyFront}
-use Rattle.ini_text.specs.Grammar.Places.{Stretches, value_source, after_key_source, pair_source, OwnLines, SpaceAfter, TrailingLines, FollowsKey, ArePlaced}
+use Rattle.ini_text.specs.Grammar.Places.{Stretches, value_source, after_key_source, pair_source, OwnLines}
+use Rattle.ini_text.specs.Grammar.Places.{SpaceAfter, TrailingLines, FollowsKey, ArePlaced}
 use Rattle.ini_text.specs.Grammar.Positions.{line_of, column_of}
 use Rattle.ini_text.specs.Grammar.Lines.{LineTail}
 use Rattle.ini_text.specs.Grammar.Values.{Value}
 use Rattle.ini_text.specs.Inside.ElementReader.{element, key_string}
 use Rattle.ini_text.specs.Inside.ItemSearch.{StopIsWithin}
-use Rattle.ini_text.specs.Inside.PlaceReader.{BeginsPair, HasRests, HasTail, HasValueRests, IsHeader, ReadsAfterKey, ReadsPair}
+use Rattle.ini_text.specs.Inside.PlaceReader.{BeginsPair, HasRests, HasTail, HasValueRests, IsHeader}
+use Rattle.ini_text.specs.Inside.PlaceReader.{ReadsAfterKey, ReadsPair}
 use Rattle.ini_text.specs.Inside.LineReader.{past_note}
 use Rattle.ini_text.specs.Inside.Reading.{Answer, found, stopped, altered_answer, StopsBy}
 use Rattle.ini_text.specs.Parsing.Items.{cow_text}

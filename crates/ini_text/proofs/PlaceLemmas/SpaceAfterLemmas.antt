@@ -1,5 +1,7 @@
 -- The white space at the end of a value's own lines, character by character from after.
-use Rattle.std.proofs.Common.{◌==◌, ◌≡◌, ◌<◌, ℕ, true, false, List, [], ◌∷◌, ◌++◌, length, refl, sym, ap, ◌∙◌, subst, subst₂, append_assoc, append-nil, length-append, arith, chars, IsUtf8, IsCharBoundary, take, drop, eqb-true, encode_utf8_all}
+use Rattle.std.proofs.Common.{◌==◌, ◌≡◌, ◌<◌, ℕ, true, false, List, [], ◌∷◌, ◌++◌, length, refl, sym, ap, ◌∙◌}
+use Rattle.std.proofs.Common.{subst, subst₂, append_assoc, append-nil, length-append, arith, chars, IsUtf8}
+use Rattle.std.proofs.Common.{IsCharBoundary, take, drop, eqb-true, encode_utf8_all}
 use Rattle.std.proofs.lemmas.List.{append_cancel_left}
 use Rattle.std.proofs.lemmas.Str.{encodes-append, encodes-chars, chars-append, IsCharBoundary-from_take}
 use Rattle.std.proofs.Math.Seq.{take-append_seam, drop-append_seam}

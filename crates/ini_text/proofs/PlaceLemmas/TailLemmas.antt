@@ -1,12 +1,16 @@
 -- A value's own lines and what stands after them, line by line.
-use Rattle.std.proofs.Common.{◌≡◌, ◌≢◌, ◌<◌, ℕ, Bool, true, false, ◌==◌, List, [], ◌∷◌, ◌++◌, length, Some, None, inl, inr, refl, sym, ap, ◌∙◌, subst, subst₂, append_assoc, append-nil, chars, eqb-true, ne_eqb}
+use Rattle.std.proofs.Common.{◌≡◌, ◌≢◌, ◌<◌, ℕ, Bool, true, false, ◌==◌, List, [], ◌∷◌, ◌++◌, length, Some}
+use Rattle.std.proofs.Common.{None, inl, inr, refl, sym, ap, ◌∙◌, subst, subst₂, append_assoc, append-nil}
+use Rattle.std.proofs.Common.{chars, eqb-true, ne_eqb}
 use Rattle.std.proofs.lemmas.Bool.{cases_Bool}
 use Rattle.std.proofs.lemmas.List.Folds.{list_all-append}
 use Rattle.std.specs.List.{list_all}
 use Rattle.ini_text.specs.declared.option.ParseOption.{ParseOption}
 use Rattle.ini_text.specs.declared.error.ParseKind.{ParseKind}
 use Rattle.ini_text.specs.declared.parser.rests.Rests.{Rests}
-use Rattle.ini_text.specs.Grammar.CharacterKinds.{line_feed, carriage_return, is_blank, is_comment_mark, is_line_end, is_line_feed, is_inline_white, BeginsWith, BeginsWithNo}
+use Rattle.ini_text.specs.Grammar.CharacterKinds.{line_feed, carriage_return, is_blank, is_comment_mark}
+use Rattle.ini_text.specs.Grammar.CharacterKinds.{is_line_end, is_line_feed, is_inline_white, BeginsWith}
+use Rattle.ini_text.specs.Grammar.CharacterKinds.{BeginsWithNo}
 use Rattle.ini_text.specs.Grammar.WhiteSpace.{without_outer_line_feeds}
 use Rattle.ini_text.specs.Grammar.Lines.{Line, LineText, LineTail, LineStops}
 use Rattle.ini_text.specs.Grammar.Values.{CommentLine, GoesOn, LineEnd, MoreLines}
@@ -21,8 +25,11 @@ use Rattle.ini_text.proofs.ReaderLemmas.ReaderLemmas.{Says, prepend-nil, prepend
 use Rattle.ini_text.proofs.ReaderLemmas.LineReaderLemmas.{line_text-reads, tail_at, text_ends}
 use Rattle.ini_text.proofs.ReaderLemmas.NoteLemmas.{LineTail-closes}
 use Rattle.ini_text.proofs.ReaderLemmas.RunReaderLemmas.{run-sound}
-use Rattle.ini_text.proofs.ReaderLemmas.LineTurnLemmas.{comment_at, comment_goes_on, no_comment_text, empty_line, empty_cr_line, line_goes_on, line_ends, line_stops, value_line, value_ends, value_goes_on}
-use Rattle.ini_text.proofs.ReaderLemmas.ValueReaderLemmas.{CommentLine-closes, EndSays, after_end-sound, no_end, MoreLines-finds}
+use Rattle.ini_text.proofs.ReaderLemmas.LineTurnLemmas.{comment_at, comment_goes_on, no_comment_text}
+use Rattle.ini_text.proofs.ReaderLemmas.LineTurnLemmas.{empty_line, empty_cr_line, line_goes_on, line_ends}
+use Rattle.ini_text.proofs.ReaderLemmas.LineTurnLemmas.{line_stops, value_line, value_ends, value_goes_on}
+use Rattle.ini_text.proofs.ReaderLemmas.ValueReaderLemmas.{CommentLine-closes, EndSays, after_end-sound}
+use Rattle.ini_text.proofs.ReaderLemmas.ValueReaderLemmas.{no_end, MoreLines-finds}
 
 pub feeds_all : (u : List ℕ) → skipped is_line_feed u ≡ [] → list_all is_line_feed u ≡ true
 feeds_all [] h = refl

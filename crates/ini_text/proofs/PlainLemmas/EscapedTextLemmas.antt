@@ -1,6 +1,9 @@
 -- What is written for a character, read as a piece; and what is written for a text, read as a row of pieces.
-use Rattle.std.proofs.Common.{◌≡◌, ◌≢◌, inl, inr, ℕ, ◌+◌, ◌*◌, ◌/◌, ◌%◌, ◌<◌, Bool, true, false, not, ◌||◌, ◌&&◌, cond, eqb, ltb, eqb-true, eq-eqb, List, [], ◌∷◌, ◌++◌, refl, sym, subst, append_assoc, arith, Option, Some, None}
-use Rattle.std.proofs.lemmas.Bool.{cond_both, cond-true, leb-false, lt-ltb, or_left, or_right, or_parts, or_cases, and_parts, not-true, both_ways, false_from_ne_true}
+use Rattle.std.proofs.Common.{◌≡◌, ◌≢◌, inl, inr, ℕ, ◌+◌, ◌*◌, ◌/◌, ◌%◌, ◌<◌, Bool, true, false, not, ◌||◌}
+use Rattle.std.proofs.Common.{◌&&◌, cond, eqb, ltb, eqb-true, eq-eqb, List, [], ◌∷◌, ◌++◌, refl, sym, subst}
+use Rattle.std.proofs.Common.{append_assoc, arith, Option, Some, None}
+use Rattle.std.proofs.lemmas.Bool.{cond_both, cond-true, leb-false, lt-ltb, or_left, or_right, or_parts}
+use Rattle.std.proofs.lemmas.Bool.{or_cases, and_parts, not-true, both_ways, false_from_ne_true}
 use Rattle.std.proofs.lemmas.Str.{digit_value-digit_char}
 use Rattle.std.specs.Char.{digit_char, digit_value}
 use Rattle.std.specs.List.{list_all}
@@ -11,8 +14,12 @@ use Rattle.ini_text.specs.Options.ReadOptions.{backslash_of}
 use Rattle.ini_text.proofs.ReaderLemmas.StringReaderLemmas.{no-backslash}
 use Rattle.ini_text.specs.declared.option.ParseOption.{ParseOption}
 use Rattle.ini_text.specs.declared.write.policy.EscapePolicy.{EscapePolicy}
-use Rattle.ini_text.specs.declared.write.policy.EscapePolicy.TheVariants.{Nothing, Basics, BasicsUnicode, BasicsUnicodeExtended, Reserved, ReservedUnicode, ReservedUnicodeExtended, Everything}
-use Rattle.ini_text.specs.Grammar.CharacterKinds.{backslash, letter_x, plus, begins, is_blank, is_line_end, is_comment_mark, is_separator, BeginsWithNo}
+use Rattle.ini_text.specs.declared.write.policy.EscapePolicy.TheVariants.{Nothing, Basics, BasicsUnicode}
+use Rattle.ini_text.specs.declared.write.policy.EscapePolicy.TheVariants.{BasicsUnicodeExtended, Reserved}
+use Rattle.ini_text.specs.declared.write.policy.EscapePolicy.TheVariants.{ReservedUnicode}
+use Rattle.ini_text.specs.declared.write.policy.EscapePolicy.TheVariants.{ReservedUnicodeExtended, Everything}
+use Rattle.ini_text.specs.Grammar.CharacterKinds.{backslash, letter_x, plus, begins, is_blank, is_line_end}
+use Rattle.ini_text.specs.Grammar.CharacterKinds.{is_comment_mark, is_separator, BeginsWithNo}
 use Rattle.ini_text.specs.Escaping.EscapedTexts.{escape, escape_by, escaped, hex_digits, letter_of}
 use Rattle.ini_text.specs.Grammar.EscapeSequences.{EscapeSequence, control, spelled}
 use Rattle.ini_text.specs.Laws.Plain.{IsReadBack, has_bare_note, has_unread_letter}

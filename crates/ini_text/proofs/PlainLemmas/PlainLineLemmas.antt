@@ -1,5 +1,6 @@
 -- Headers and pairs as they are written, read back.
-use Rattle.std.proofs.Common.{◌≡◌, ℕ, Bool, true, false, not, ◌||◌, cond, eqb, List, [], ◌∷◌, ◌++◌, refl, sym, ap, ◌∙◌, subst, append_assoc, append-nil}
+use Rattle.std.proofs.Common.{◌≡◌, ℕ, Bool, true, false, not, ◌||◌, cond, eqb, List, [], ◌∷◌, ◌++◌, refl, sym}
+use Rattle.std.proofs.Common.{ap, ◌∙◌, subst, append_assoc, append-nil}
 use Rattle.std.proofs.lemmas.Bool.{or_left, or_from, and_parts, and_from, not-true, both_ways, false≢true}
 use Rattle.std.specs.List.{list_all}
 use Rattle.ini_text.specs.Options.Backslashes.{Backslash}
@@ -8,7 +9,8 @@ use Rattle.ini_text.specs.declared.write.policy.EscapePolicy.{EscapePolicy}
 use Rattle.ini_text.specs.declared.write.option.LineSeparator.{LineSeparator}
 use Rattle.ini_text.specs.declared.write.option.WriteOption.{WriteOption}
 use Rattle.ini_text.specs.declared.write.option.LineSeparator.TheVariants.{SystemDefault, CR, CRLF}
-use Rattle.ini_text.specs.Grammar.CharacterKinds.{line_feed, carriage_return, close_bracket, open_bracket, is_blank, is_line_end, is_line_feed}
+use Rattle.ini_text.specs.Grammar.CharacterKinds.{line_feed, carriage_return, close_bracket, open_bracket}
+use Rattle.ini_text.specs.Grammar.CharacterKinds.{is_blank, is_line_end, is_line_feed}
 use Rattle.ini_text.specs.Escaping.EscapedTexts.{escaped}
 use Rattle.ini_text.specs.Escaping.Policies.{is_escaped}
 use Rattle.ini_text.specs.Grammar.Strings.{Ends, Row, Str, is_endpoint, name_ends}
@@ -16,10 +18,12 @@ use Rattle.ini_text.specs.Grammar.Positions.{is_column_one}
 use Rattle.ini_text.specs.Grammar.Elements.{Given, Header, Gap, Element}
 use Rattle.ini_text.specs.Grammar.Texts.{Reads}
 use Rattle.ini_text.specs.Laws.Plain.{IsPlainName}
-use Rattle.ini_text.specs.Laws.PlainLaws.{AreGaps, GivesLine, IsElementThenGaps, IsHeaderLine, header_source, line_ends}
+use Rattle.ini_text.specs.Laws.PlainLaws.{AreGaps, GivesLine, IsElementThenGaps, IsHeaderLine, header_source}
+use Rattle.ini_text.specs.Laws.PlainLaws.{line_ends}
 use Rattle.ini_text.specs.Options.WriteOptions.{line_end}
 use Rattle.ini_text.proofs.GrammarLemmas.KindLemmas.{line_end_no_blank}
-use Rattle.ini_text.proofs.PlainLemmas.EscapedTextLemmas.{AllRead, NoBareNote, NoRawEnd, all_read, row_escaped}
+use Rattle.ini_text.proofs.PlainLemmas.EscapedTextLemmas.{AllRead, NoBareNote, NoRawEnd, all_read}
+use Rattle.ini_text.proofs.PlainLemmas.EscapedTextLemmas.{row_escaped}
 use Rattle.ini_text.proofs.LawLemmas.MovedLemmas.{last_or-after}
 use Rattle.ini_text.proofs.PlainLemmas.PlainTrimLemmas.{line_end_is_white}
 

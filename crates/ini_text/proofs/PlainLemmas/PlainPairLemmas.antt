@@ -1,6 +1,10 @@
 -- Pairs as they are written, read back.
-use Rattle.std.proofs.Common.{◌≡◌, ◌≢◌, ◌⊎◌, inl, inr, ℕ, Bool, true, false, not, ◌||◌, ◌&&◌, cond, eqb, eqb-true, List, [], ◌∷◌, ◌++◌, refl, sym, ap, ◌∙◌, subst, append_assoc, append-nil, chars}
-use Rattle.std.proofs.lemmas.Bool.{cond_both, cond-true, cond-false, or_left, or_right, or_from, or_cases, or_parts, and_left, and_right, and_parts, and_from, both_ways, false_from_ne_true, cases_Bool}
+use Rattle.std.proofs.Common.{◌≡◌, ◌≢◌, ◌⊎◌, inl, inr, ℕ, Bool, true, false, not, ◌||◌, ◌&&◌, cond, eqb}
+use Rattle.std.proofs.Common.{eqb-true, List, [], ◌∷◌, ◌++◌, refl, sym, ap, ◌∙◌, subst, append_assoc}
+use Rattle.std.proofs.Common.{append-nil, chars}
+use Rattle.std.proofs.lemmas.Bool.{cond_both, cond-true, cond-false, or_left, or_right, or_from, or_cases}
+use Rattle.std.proofs.lemmas.Bool.{or_parts, and_left, and_right, and_parts, and_from, both_ways}
+use Rattle.std.proofs.lemmas.Bool.{false_from_ne_true, cases_Bool}
 use Rattle.std.specs.Char.{is_whitespace}
 use Rattle.std.specs.List.{list_all}
 use Rattle.ini_text.proofs.ReaderLemmas.NoteLemmas.{no_mark_no_note}
@@ -11,28 +15,40 @@ use Rattle.ini_text.specs.declared.option.LoneLine.{LoneLine}
 use Rattle.ini_text.specs.declared.option.LoneLine.TheVariants.{RunsOn, Refused, Key}
 use Rattle.ini_text.specs.declared.option.ParseOption.{ParseOption}
 use Rattle.ini_text.specs.declared.write.policy.EscapePolicy.{EscapePolicy}
-use Rattle.ini_text.specs.declared.write.policy.EscapePolicy.TheVariants.{Nothing, Basics, BasicsUnicode, BasicsUnicodeExtended, Reserved, ReservedUnicode, ReservedUnicodeExtended, Everything}
+use Rattle.ini_text.specs.declared.write.policy.EscapePolicy.TheVariants.{Nothing, Basics, BasicsUnicode}
+use Rattle.ini_text.specs.declared.write.policy.EscapePolicy.TheVariants.{BasicsUnicodeExtended, Reserved}
+use Rattle.ini_text.specs.declared.write.policy.EscapePolicy.TheVariants.{ReservedUnicode}
+use Rattle.ini_text.specs.declared.write.policy.EscapePolicy.TheVariants.{ReservedUnicodeExtended, Everything}
 use Rattle.ini_text.specs.declared.write.option.LineSeparator.{LineSeparator}
 use Rattle.ini_text.specs.declared.write.option.WriteOption.{WriteOption}
 use Rattle.ini_text.specs.declared.write.option.LineSeparator.TheVariants.{SystemDefault, CR, CRLF}
-use Rattle.ini_text.specs.Grammar.CharacterKinds.{backslash, line_feed, carriage_return, open_bracket, space, begins, is_blank, is_comment_mark, is_inline_white, is_line_end, is_line_feed, is_quote_mark, is_separator, BeginsWith, BeginsWithNo}
+use Rattle.ini_text.specs.Grammar.CharacterKinds.{backslash, line_feed, carriage_return, open_bracket, space}
+use Rattle.ini_text.specs.Grammar.CharacterKinds.{begins, is_blank, is_comment_mark, is_inline_white}
+use Rattle.ini_text.specs.Grammar.CharacterKinds.{is_line_end, is_line_feed, is_quote_mark, is_separator}
+use Rattle.ini_text.specs.Grammar.CharacterKinds.{BeginsWith, BeginsWithNo}
 use Rattle.ini_text.specs.Escaping.EscapedTexts.{escape, escaped}
 use Rattle.ini_text.specs.Escaping.Policies.{is_escaped}
 use Rattle.ini_text.specs.Grammar.WhiteSpace.{Lead, trimmed, end_trimmed}
-use Rattle.ini_text.specs.Grammar.Strings.{Closes, Row, Str, is_endpoint, key_ends, noted_key_ends, plain_ends}
+use Rattle.ini_text.specs.Grammar.Strings.{Closes, Row, Str, is_endpoint, key_ends, noted_key_ends}
+use Rattle.ini_text.specs.Grammar.Strings.{plain_ends}
 use Rattle.ini_text.specs.Grammar.Lines.{Line, LineText, Quoted, BeginsPlain}
 use Rattle.ini_text.specs.Grammar.Values.{LineEnd, MoreLines, Value}
 use Rattle.ini_text.specs.Grammar.Keys.{Indentation, KeyFront, begins_key, begins_indented_key, begins_note}
 use Rattle.ini_text.specs.Grammar.Positions.{last_or, starts_line, is_column_one}
 use Rattle.ini_text.specs.Grammar.Elements.{Pair, Element}
-use Rattle.ini_text.specs.Laws.Plain.{has_bare_note, IsPlainSeparator, IsBareKey, IsIndentedByEscape, IsPlainKey, IsPlainValue, IsPlainPair}
+use Rattle.ini_text.specs.Laws.Plain.{has_bare_note, IsPlainSeparator, IsBareKey, IsIndentedByEscape}
+use Rattle.ini_text.specs.Laws.Plain.{IsPlainKey, IsPlainValue, IsPlainPair}
 use Rattle.ini_text.specs.Laws.PlainLaws.{AreGaps, FollowsPair, GivesLine, IsPairLine, line_ends, pair_source}
 use Rattle.ini_text.specs.Options.WriteOptions.{line_end}
 use Rattle.ini_text.proofs.GrammarLemmas.KindLemmas.{comment_mark-apart, no_white_no_blank}
 use Rattle.ini_text.proofs.GrammarLemmas.LineLemmas.{line_of_text}
-use Rattle.ini_text.proofs.PlainLemmas.EscapedTextLemmas.{AllRead, NoBareNote, NoRawEnd, all_read, escaped_begins, row_escaped}
-use Rattle.ini_text.proofs.PlainLemmas.PlainLineLemmas.{element_then_gaps-gives, line_end_gaps, line_ends_column, row_of}
-use Rattle.ini_text.proofs.PlainLemmas.PlainTrimLemmas.{line_end_is_white, trimmed_begins, trimmed_end, end_trimmed-blanks, trimmed-blanks, end_trimmed-after, some_after, without_line_feeds-trimmed}
+use Rattle.ini_text.proofs.PlainLemmas.EscapedTextLemmas.{AllRead, NoBareNote, NoRawEnd, all_read}
+use Rattle.ini_text.proofs.PlainLemmas.EscapedTextLemmas.{escaped_begins, row_escaped}
+use Rattle.ini_text.proofs.PlainLemmas.PlainLineLemmas.{element_then_gaps-gives, line_end_gaps}
+use Rattle.ini_text.proofs.PlainLemmas.PlainLineLemmas.{line_ends_column, row_of}
+use Rattle.ini_text.proofs.PlainLemmas.PlainTrimLemmas.{line_end_is_white, trimmed_begins, trimmed_end}
+use Rattle.ini_text.proofs.PlainLemmas.PlainTrimLemmas.{end_trimmed-blanks, trimmed-blanks, end_trimmed-after}
+use Rattle.ini_text.proofs.PlainLemmas.PlainTrimLemmas.{some_after, without_line_feeds-trimmed}
 
 -- what an escaped text begins with: a backslash, or its first character, which isn't escaped
 module _ (P : List ℕ → Type 0) (slash : (y : List ℕ) → P (backslash ∷ y)) (policy : EscapePolicy) where

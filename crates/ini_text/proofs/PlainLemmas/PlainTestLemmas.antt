@@ -1,24 +1,36 @@
 -- Each test of a name, a key, a value or a separator holds exactly where what it tests does.
-use Rattle.std.proofs.Common.{◌≡◌, ◌≢◌, ◌⊎◌, inl, inr, ℕ, Bool, true, false, not, ◌&&◌, ◌||◌, ◌++◌, cond, eqb, eqb-true, List, [], ◌∷◌, refl, ap, sym, ◌∙◌, subst}
-use Rattle.std.proofs.lemmas.Bool.{false≢true, and_parts, and_from, both_ways, cond_both, cond-true, cond-false, false_from_ne_true, not-true}
+use Rattle.std.proofs.Common.{◌≡◌, ◌≢◌, ◌⊎◌, inl, inr, ℕ, Bool, true, false, not, ◌&&◌, ◌||◌, ◌++◌, cond, eqb}
+use Rattle.std.proofs.Common.{eqb-true, List, [], ◌∷◌, refl, ap, sym, ◌∙◌, subst}
+use Rattle.std.proofs.lemmas.Bool.{false≢true, and_parts, and_from, both_ways, cond_both, cond-true}
+use Rattle.std.proofs.lemmas.Bool.{cond-false, false_from_ne_true, not-true}
 use Rattle.std.proofs.lemmas.Bool.Decides.{Decides-and, Decides-like, Decides-not, Decides-or}
 use Rattle.std.specs.Bool.{Decides}
 use Rattle.std.specs.Char.{is_whitespace}
 use Rattle.std.specs.Cmp.Lexicographic.{bytes_decides}
 use Rattle.std.specs.List.{list_all}
 use Rattle.std.specs.Str.{all_scalars}
-use Rattle.ini_text.specs.Grammar.CharacterKinds.{space, is_blank, is_comment_mark, is_quote_mark, is_separator, open_bracket, BeginsWith, BeginsWithNo}
-use Rattle.ini_text.specs.Laws.Plain.{HasNoEscapes, HasReadEscapes, IsBareKey, IsIndentedByEscape, IsPlainKey, IsPlainName, IsPlainPair, IsPlainSeparator, IsPlainValue, IsReadBack}
+use Rattle.ini_text.specs.Grammar.CharacterKinds.{space, is_blank, is_comment_mark, is_quote_mark}
+use Rattle.ini_text.specs.Grammar.CharacterKinds.{is_separator, open_bracket, BeginsWith, BeginsWithNo}
+use Rattle.ini_text.specs.Laws.Plain.{HasNoEscapes, HasReadEscapes, IsBareKey, IsIndentedByEscape, IsPlainKey}
+use Rattle.ini_text.specs.Laws.Plain.{IsPlainName, IsPlainPair, IsPlainSeparator, IsPlainValue, IsReadBack}
 use Rattle.ini_text.specs.Grammar.CharacterKinds.{begins}
 use Rattle.ini_text.specs.Grammar.Strings.{ends_with_line, noted_key_ends}
 use Rattle.ini_text.specs.Laws.Plain.{has_bare_note}
-use Rattle.ini_text.specs.Inside.PlainTests.{escapes_nothing, has_no_close_bracket, has_key_note, has_no_escapes, has_no_name_end, has_note, has_read_escapes, is_bare_key, is_indented_by_escape, is_separator_and_blanks, is_plain_key, is_plain_name, is_plain_pair, is_plain_separator, is_plain_value, is_read_back, is_trimmed, may_begin_key, may_indent}
+use Rattle.ini_text.specs.Inside.PlainTests.{escapes_nothing, has_no_close_bracket, has_key_note}
+use Rattle.ini_text.specs.Inside.PlainTests.{has_no_escapes, has_no_name_end, has_note, has_read_escapes}
+use Rattle.ini_text.specs.Inside.PlainTests.{is_bare_key, is_indented_by_escape, is_separator_and_blanks}
+use Rattle.ini_text.specs.Inside.PlainTests.{is_plain_key, is_plain_name, is_plain_pair, is_plain_separator}
+use Rattle.ini_text.specs.Inside.PlainTests.{is_plain_value, is_read_back, is_trimmed, may_begin_key}
+use Rattle.ini_text.specs.Inside.PlainTests.{may_indent}
 use Rattle.ini_text.specs.Escaping.Policies.{is_escaped}
 use Rattle.ini_text.specs.Inside.Scans.{run_of, skipped}
 use Rattle.ini_text.specs.Grammar.WhiteSpace.{trimmed, end_trimmed}
 use Rattle.ini_text.specs.declared.option.ParseOption.{ParseOption}
 use Rattle.ini_text.specs.declared.write.policy.EscapePolicy.{EscapePolicy}
-use Rattle.ini_text.specs.declared.write.policy.EscapePolicy.TheVariants.{Nothing, Basics, BasicsUnicode, BasicsUnicodeExtended, Reserved, ReservedUnicode, ReservedUnicodeExtended, Everything}
+use Rattle.ini_text.specs.declared.write.policy.EscapePolicy.TheVariants.{Nothing, Basics, BasicsUnicode}
+use Rattle.ini_text.specs.declared.write.policy.EscapePolicy.TheVariants.{BasicsUnicodeExtended, Reserved}
+use Rattle.ini_text.specs.declared.write.policy.EscapePolicy.TheVariants.{ReservedUnicode}
+use Rattle.ini_text.specs.declared.write.policy.EscapePolicy.TheVariants.{ReservedUnicodeExtended, Everything}
 use Rattle.ini_text.proofs.PlainLemmas.PlainPairLemmas.{space_raw}
 use Rattle.ini_text.proofs.PlainLemmas.PlainTrimLemmas.{trimmed_begins}
 use Rattle.ini_text.proofs.ReaderLemmas.RunReaderLemmas.{run-sound}

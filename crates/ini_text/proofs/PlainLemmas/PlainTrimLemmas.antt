@@ -1,11 +1,14 @@
 -- Trimming texts that are trimmed already, and what stands around them.
-use Rattle.std.proofs.Common.{◌≡◌, ◌≢◌, ◌≤◌, ℕ, suc, Bool, true, false, ◌&&◌, cond, eqb, List, [], ◌∷◌, ◌++◌, length, refl, sym, ap, ◌∙◌, subst, arith, eqb-true, ne_eqb, inl, inr}
-use Rattle.std.proofs.lemmas.Bool.{cond_both, cond-true, cond-false, or_cases, and_parts, and_right, and_from, both_ways, false_from_ne_true}
+use Rattle.std.proofs.Common.{◌≡◌, ◌≢◌, ◌≤◌, ℕ, suc, Bool, true, false, ◌&&◌, cond, eqb, List, [], ◌∷◌, ◌++◌}
+use Rattle.std.proofs.Common.{length, refl, sym, ap, ◌∙◌, subst, arith, eqb-true, ne_eqb, inl, inr}
+use Rattle.std.proofs.lemmas.Bool.{cond_both, cond-true, cond-false, or_cases, and_parts, and_right, and_from}
+use Rattle.std.proofs.lemmas.Bool.{both_ways, false_from_ne_true}
 use Rattle.std.specs.Char.{is_whitespace}
 use Rattle.std.specs.List.{list_all}
 use Rattle.std.specs.Str.{skip_leading_whitespace, drop_trailing_whitespace}
 use Rattle.ini_text.specs.Grammar.CharacterKinds.{is_blank, is_line_feed, is_line_end, BeginsWithNo}
-use Rattle.ini_text.specs.Grammar.WhiteSpace.{trimmed, end_trimmed, drop_line_feeds, skip_line_feeds, without_outer_line_feeds}
+use Rattle.ini_text.specs.Grammar.WhiteSpace.{trimmed, end_trimmed, drop_line_feeds, skip_line_feeds}
+use Rattle.ini_text.specs.Grammar.WhiteSpace.{without_outer_line_feeds}
 use Rattle.ini_text.proofs.GrammarLemmas.KindLemmas.{blank_is_white}
 
 pub line_end_is_white : (c : ℕ) → is_line_end c ≡ true → is_whitespace c ≡ true

@@ -1,8 +1,11 @@
 -- Reading an element by the character with which it begins: the reader finds what the grammar says, and the
 -- code gives it.
-use Rattle.std.proofs.Common.{◌≡◌, ◌≢◌, ℕ, true, false, ◌&&◌, ◌||◌, ◌==◌, List, [], ◌∷◌, ◌++◌, drop, Option, Some, None, inl, inr, refl, sym, ap, ◌∙◌, subst, subst₂, append_assoc, append-nil, eqb-true}
+use Rattle.std.proofs.Common.{◌≡◌, ◌≢◌, ℕ, true, false, ◌&&◌, ◌||◌, ◌==◌, List, [], ◌∷◌, ◌++◌, drop, Option}
+use Rattle.std.proofs.Common.{Some, None, inl, inr, refl, sym, ap, ◌∙◌, subst, subst₂, append_assoc}
+use Rattle.std.proofs.Common.{append-nil, eqb-true}
 use Rattle.std.proofs.Math.Bool.{or-false}
-use Rattle.std.proofs.lemmas.Bool.{cases_Bool, cond-true, cond-false, and_parts, or_parts, not-true, not-false}
+use Rattle.std.proofs.lemmas.Bool.{cases_Bool, cond-true, cond-false, and_parts, or_parts, not-true}
+use Rattle.std.proofs.lemmas.Bool.{not-false}
 use Rattle.std.specs.Char.{is_whitespace}
 use Rattle.std.specs.List.{list_all}
 use Rattle.ini_text.specs.Options.ReadOptions.{backslash_of}
@@ -11,28 +14,41 @@ use Rattle.ini_text.specs.declared.option.LoneLine.TheVariants.{RunsOn, Refused,
 use Rattle.ini_text.specs.declared.option.ParseOption.{ParseOption}
 use Rattle.ini_text.specs.declared.error.ParseKind.{ParseKind}
 use Rattle.ini_text.specs.declared.error.ParseKind.TheVariants.{EndOfText, InlineComment}
-use Rattle.ini_text.specs.Grammar.CharacterKinds.{line_feed, open_bracket, close_bracket, is_line_end, is_blank, is_separator, is_comment_mark, BeginsWith, BeginsWithNo}
+use Rattle.ini_text.specs.Grammar.CharacterKinds.{line_feed, open_bracket, close_bracket, is_line_end}
+use Rattle.ini_text.specs.Grammar.CharacterKinds.{is_blank, is_separator, is_comment_mark, BeginsWith}
+use Rattle.ini_text.specs.Grammar.CharacterKinds.{BeginsWithNo}
 use Rattle.ini_text.specs.Grammar.Positions.{starts_line, is_column_one}
-use Rattle.ini_text.specs.Grammar.Strings.{Ends, Str, StrStops, ends_with_line, name_ends, bracketed_name_ends, key_ends, noted, noted_key_ends}
+use Rattle.ini_text.specs.Grammar.Strings.{Ends, Str, StrStops, ends_with_line, name_ends}
+use Rattle.ini_text.specs.Grammar.Strings.{bracketed_name_ends, key_ends, noted, noted_key_ends}
 use Rattle.ini_text.specs.Grammar.Values.{Value, ValueStops}
 use Rattle.ini_text.specs.Grammar.Keys.{Indentation, begins_key, begins_indented_key, begins_note, KeyFront}
 use Rattle.ini_text.specs.Grammar.Lines.{Note}
 use Rattle.ini_text.specs.Grammar.Elements.{Given, Gap, Element, ElementStops, ends_part, may_have_note}
-use Rattle.ini_text.specs.Inside.ElementReader.{after_key, after_mark, key_string, lone_key, name_in, header, header_of_name, bracketed_header, after_bracket, pair_of_value, after_separator, trimmed_key, pair_of_key, unindented_pair, dropped_tail, indented_pair_of_key, kept_blanks, indented_pair, after_blanks, is_comment_part, element}
+use Rattle.ini_text.specs.Inside.ElementReader.{after_key, after_mark, key_string, lone_key, name_in, header}
+use Rattle.ini_text.specs.Inside.ElementReader.{header_of_name, bracketed_header, after_bracket}
+use Rattle.ini_text.specs.Inside.ElementReader.{pair_of_value, after_separator, trimmed_key, pair_of_key}
+use Rattle.ini_text.specs.Inside.ElementReader.{unindented_pair, dropped_tail, indented_pair_of_key}
+use Rattle.ini_text.specs.Inside.ElementReader.{kept_blanks, indented_pair, after_blanks, is_comment_part}
+use Rattle.ini_text.specs.Inside.ElementReader.{element}
 use Rattle.ini_text.specs.Inside.Reading.{Answer, found, stopped, prepend, altered_answer}
 use Rattle.ini_text.specs.Inside.Scans.{is_line_part, run_of, skipped, trimmed_at}
 use Rattle.ini_text.specs.Inside.StringReader.{string}
 use Rattle.ini_text.specs.Inside.ValueReader.{value}
 use Rattle.ini_text.specs.Parsing.Fronts.{front_of, IsRest}
 use Rattle.ini_text.proofs.GrammarLemmas.BracketedNameLemmas.{finds_name, name_found, no_name, none_found}
-use Rattle.ini_text.proofs.GrammarLemmas.KindLemmas.{no_white_no_blank, line_end_no_blank, comment_mark-apart, comment_mark-in_line}
+use Rattle.ini_text.proofs.GrammarLemmas.KindLemmas.{no_white_no_blank, line_end_no_blank, comment_mark-apart}
+use Rattle.ini_text.proofs.GrammarLemmas.KindLemmas.{comment_mark-in_line}
 use Rattle.ini_text.proofs.ReaderLemmas.NoteLemmas.{note_at, note_read}
 use Rattle.ini_text.proofs.ReaderLemmas.ReaderLemmas.{Says, IsReader}
 use Rattle.ini_text.proofs.ReaderLemmas.RunReaderLemmas.{run-finds, run-sound}
 use Rattle.ini_text.proofs.ReaderLemmas.StringReaderLemmas.{StringSays, string-reads}
 use Rattle.ini_text.proofs.ReaderLemmas.ValueReaderLemmas.{value-reads}
 use Rattle.ini_text.proofs.StringLemmas.FrontLemmas.{front_is}
-use Rattle.ini_text.proofs.ReaderLemmas.KeyReaderLemmas.{MayFollow, alone_after, endpoint_follows, indented_value, key_apart, key_at_end, key_ends_line, KeyFront-ends, key_string-reads, key_value, not_dropped, part_no_separator, separated, some_lone_key, stopped_at_end, value_after}
+use Rattle.ini_text.proofs.ReaderLemmas.KeyReaderLemmas.{MayFollow, alone_after, endpoint_follows}
+use Rattle.ini_text.proofs.ReaderLemmas.KeyReaderLemmas.{indented_value, key_apart, key_at_end, key_ends_line}
+use Rattle.ini_text.proofs.ReaderLemmas.KeyReaderLemmas.{KeyFront-ends, key_string-reads, key_value}
+use Rattle.ini_text.proofs.ReaderLemmas.KeyReaderLemmas.{not_dropped, part_no_separator, separated}
+use Rattle.ini_text.proofs.ReaderLemmas.KeyReaderLemmas.{some_lone_key, stopped_at_end, value_after}
 
 module _ (o : ParseOption) (b : List ℕ) where
   no_line_start : (c : ℕ) → (is_blank c ≡ true → starts_line b ≡ false)

@@ -1,7 +1,10 @@
 -- What follows a key's string, and what begins an indented key.
-use Rattle.std.proofs.Common.{◌⊎◌, ◌∙◌, if◌then◌else◌, ◌≡◌, ◌≢◌, ◌≤◌, ℕ, Bool, true, false, not, ◌||◌, ◌==◌, List, [], ◌∷◌, ◌++◌, drop, length, length-append, arith, inl, inr, refl, sym, ap, chars, eqb-true, ne_eqb, true≢false}
+use Rattle.std.proofs.Common.{◌⊎◌, ◌∙◌, if◌then◌else◌, ◌≡◌, ◌≢◌, ◌≤◌, ℕ, Bool, true, false, not, ◌||◌, ◌==◌}
+use Rattle.std.proofs.Common.{List, [], ◌∷◌, ◌++◌, drop, length, length-append, arith, inl, inr, refl, sym}
+use Rattle.std.proofs.Common.{ap, chars, eqb-true, ne_eqb, true≢false}
 use Rattle.std.proofs.Math.Bool.{or-false}
-use Rattle.std.proofs.lemmas.Bool.{and_parts, both_ways, cond-false, cond-true, or_cases, or_left, or_parts, or_right, not-true, true_from_ne_false}
+use Rattle.std.proofs.lemmas.Bool.{and_parts, both_ways, cond-false, cond-true, or_cases, or_left, or_parts}
+use Rattle.std.proofs.lemmas.Bool.{or_right, not-true, true_from_ne_false}
 use Rattle.ini_text.specs.Options.Backslashes.{Backslash}
 use Rattle.ini_text.specs.Options.ReadOptions.{backslash_of}
 use Rattle.ini_text.specs.declared.option.LoneLine.{LoneLine}
@@ -12,19 +15,26 @@ use Rattle.ini_text.specs.declared.parser.fault.Stop.TheVariants as stops
 use Rattle.ini_text.specs.declared.parser.endpoints.Endpoints.TheVariants as endpoints
 use Rattle.ini_text.specs.declared.error.ParseKind.{ParseKind}
 use Rattle.ini_text.specs.declared.error.ParseKind.TheVariants.{EndOfText, MissingKey}
-use Rattle.ini_text.specs.Grammar.CharacterKinds.{carriage_return, colon, equals, hash, line_feed, open_bracket, semicolon, begins, is_comment_mark, is_line_end, is_blank, is_separator, BeginsWithNo}
+use Rattle.ini_text.specs.Grammar.CharacterKinds.{carriage_return, colon, equals, hash, line_feed}
+use Rattle.ini_text.specs.Grammar.CharacterKinds.{open_bracket, semicolon, begins, is_comment_mark}
+use Rattle.ini_text.specs.Grammar.CharacterKinds.{is_line_end, is_blank, is_separator, BeginsWithNo}
 use Rattle.ini_text.specs.Grammar.EscapeSequences.{EscapeStops}
 use Rattle.ini_text.specs.Grammar.WhiteSpace.{trimmed, end_trimmed}
-use Rattle.ini_text.specs.Grammar.Strings.{Closes, Ends, ends_with_line, is_endpoint, Str, StrStops, key_ends, noted_key_ends}
+use Rattle.ini_text.specs.Grammar.Strings.{Closes, Ends, ends_with_line, is_endpoint, Str, StrStops, key_ends}
+use Rattle.ini_text.specs.Grammar.Strings.{noted_key_ends}
 use Rattle.ini_text.specs.Grammar.Keys.{begins_indented_key, begins_note, KeyFront}
 use Rattle.ini_text.specs.Grammar.Elements.{Pair, ends_part}
-use Rattle.ini_text.specs.Inside.ElementReader.{after_key, key_string, lone_key, pair_of_value, after_separator, trimmed_key, dropped_tail, indented_pair_of_key, kept_blanks, indented_pair, after_blanks}
+use Rattle.ini_text.specs.Inside.ElementReader.{after_key, key_string, lone_key, pair_of_value}
+use Rattle.ini_text.specs.Inside.ElementReader.{after_separator, trimmed_key, dropped_tail}
+use Rattle.ini_text.specs.Inside.ElementReader.{indented_pair_of_key, kept_blanks, indented_pair}
+use Rattle.ini_text.specs.Inside.ElementReader.{after_blanks}
 use Rattle.ini_text.specs.Inside.Reading.{Answer, found, stopped, prepend, altered_answer, StopsBy}
 use Rattle.ini_text.specs.Inside.Scans.{trimmed_at}
 use Rattle.ini_text.specs.Inside.ValueReader.{value}
 use Rattle.ini_text.proofs.ReaderLemmas.ReaderLemmas.{IsReader, prepend-nil}
 use Rattle.ini_text.proofs.ReaderLemmas.RunReaderLemmas.{BeginsWith-some}
-use Rattle.ini_text.proofs.ReaderLemmas.StringReaderLemmas.{empty_row, no_backslash_ends, note_parts, string-reads}
+use Rattle.ini_text.proofs.ReaderLemmas.StringReaderLemmas.{empty_row, no_backslash_ends, note_parts}
+use Rattle.ini_text.proofs.ReaderLemmas.StringReaderLemmas.{string-reads}
 
 -- what follows a string: what closes it, or, where it ends before notes, a note
 abbrev pub MayFollow : Ends → List ℕ → Type 0

@@ -1,6 +1,8 @@
 -- Reading a line by its quoted parts and its plain part: the reader finds what the grammar says, and the
 -- code gives it.
-use Rattle.std.proofs.Common.{◌≡◌, ◌⊎◌, ℕ, Bool, true, false, true≢false, ◌&&◌, ◌||◌, not, List, [], ◌∷◌, ◌++◌, ◌<◌, length, drop, Some, None, inl, inr, refl, sym, ap, ◌∙◌, subst, append_assoc, append-nil, length-append, arith, ne_eqb, eqb-true}
+use Rattle.std.proofs.Common.{◌≡◌, ◌⊎◌, ℕ, Bool, true, false, true≢false, ◌&&◌, ◌||◌, not, List, [], ◌∷◌}
+use Rattle.std.proofs.Common.{◌++◌, ◌<◌, length, drop, Some, None, inl, inr, refl, sym, ap, ◌∙◌, subst}
+use Rattle.std.proofs.Common.{append_assoc, append-nil, length-append, arith, ne_eqb, eqb-true}
 use Rattle.std.proofs.Math.Bool.{and-false, or-false}
 use Rattle.std.proofs.lemmas.Bool.{both_ways, cases_Bool, and_parts, false_from_ne_true}
 use Rattle.ini_text.specs.Options.Backslashes.{Backslash}
@@ -9,12 +11,17 @@ use Rattle.ini_text.specs.declared.option.ParseOption.{ParseOption}
 use Rattle.ini_text.specs.declared.error.ParseKind.{ParseKind}
 use Rattle.ini_text.specs.Grammar.CharacterKinds.{begins, is_comment_mark, is_line_end, is_quote_mark}
 use Rattle.ini_text.specs.Grammar.Strings.{Closes, Ends, quote_ends, plain_ends, noted, Str, StrStops}
-use Rattle.ini_text.specs.Grammar.Lines.{Quoted, BeginsPlain, plain_value, Line, LineStops, LineTail, LineText, Note}
-use Rattle.ini_text.specs.Inside.LineReader.{quote_at, opens_quote, after_quoted, part, parts, plain_part, line, line_text, past_note, without_note}
-use Rattle.ini_text.specs.Inside.Reading.{Answer, found, stopped, prepend, altered_answer, and_then, Step, more, go_on}
+use Rattle.ini_text.specs.Grammar.Lines.{Quoted, BeginsPlain, plain_value, Line, LineStops, LineTail}
+use Rattle.ini_text.specs.Grammar.Lines.{LineText, Note}
+use Rattle.ini_text.specs.Inside.LineReader.{quote_at, opens_quote, after_quoted, part, parts, plain_part}
+use Rattle.ini_text.specs.Inside.LineReader.{line, line_text, past_note, without_note}
+use Rattle.ini_text.specs.Inside.Reading.{Answer, found, stopped, prepend, altered_answer, and_then, Step}
+use Rattle.ini_text.specs.Inside.Reading.{more, go_on}
 use Rattle.ini_text.specs.Inside.Scans.{is_line_part, run_of, trimmed_at}
 use Rattle.ini_text.specs.Inside.StringReader.{string}
-use Rattle.ini_text.proofs.ReaderLemmas.ReaderLemmas.{and_found, and_stopped, prepend-nil, prepend-prepend, then_found, then_stopped, stopped_after, read_after, Says, IsReader, StepSays, turn, shortens, reads}
+use Rattle.ini_text.proofs.ReaderLemmas.ReaderLemmas.{and_found, and_stopped, prepend-nil, prepend-prepend}
+use Rattle.ini_text.proofs.ReaderLemmas.ReaderLemmas.{then_found, then_stopped, stopped_after, read_after}
+use Rattle.ini_text.proofs.ReaderLemmas.ReaderLemmas.{Says, IsReader, StepSays, turn, shortens, reads}
 use Rattle.ini_text.proofs.GrammarLemmas.KindLemmas.{comment_mark-in_line}
 use Rattle.ini_text.proofs.ReaderLemmas.KeyReaderLemmas.{str_ends}
 use Rattle.ini_text.proofs.ReaderLemmas.NoteLemmas.{note_at, note_read, past_mark}

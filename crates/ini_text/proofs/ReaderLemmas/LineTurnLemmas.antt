@@ -1,20 +1,25 @@
 -- The lines with which a value goes on, one after another, as the code reads them.
-use Rattle.std.proofs.Common.{◌≡◌, ◌≢◌, ℕ, ◌<◌, true, false, List, [], ◌∷◌, ◌++◌, length, Some, None, inl, inr, refl, sym, ap, ◌∙◌, subst, append_assoc, ne_eqb}
+use Rattle.std.proofs.Common.{◌≡◌, ◌≢◌, ℕ, ◌<◌, true, false, List, [], ◌∷◌, ◌++◌, length, Some, None, inl}
+use Rattle.std.proofs.Common.{inr, refl, sym, ap, ◌∙◌, subst, append_assoc, ne_eqb}
 use Rattle.std.proofs.lemmas.Bool.{cases_Bool, cond-true}
 use Rattle.ini_text.specs.declared.error.ParseKind.{ParseKind}
-use Rattle.ini_text.specs.Grammar.CharacterKinds.{line_feed, carriage_return, begins, is_blank, is_inline_white, BeginsWithNo, is_comment_mark}
+use Rattle.ini_text.specs.Grammar.CharacterKinds.{line_feed, carriage_return, begins, is_blank}
+use Rattle.ini_text.specs.Grammar.CharacterKinds.{is_inline_white, BeginsWithNo, is_comment_mark}
 use Rattle.ini_text.specs.Grammar.WhiteSpace.{Lead, without_outer_line_feeds}
 use Rattle.ini_text.specs.Grammar.Keys.{begins_note}
 use Rattle.ini_text.specs.Grammar.Values.{CommentLine, MoreLines, MoreLinesStop}
 use Rattle.ini_text.specs.Inside.LineReader.{line}
 use Rattle.ini_text.specs.Inside.Reading.{found, stopped, prepend, altered_answer, more, ends, go_on}
 use Rattle.ini_text.specs.Inside.Scans.{is_line_part, run_of, skipped}
-use Rattle.ini_text.specs.Inside.ValueReader.{after_end, comment_end, empty_cr, before_end, row, more_lines, multiline_value, value}
+use Rattle.ini_text.specs.Inside.ValueReader.{after_end, comment_end, empty_cr, before_end, row, more_lines}
+use Rattle.ini_text.specs.Inside.ValueReader.{multiline_value, value}
 use Rattle.ini_text.proofs.GrammarLemmas.KindLemmas.{blank_inline}
-use Rattle.ini_text.proofs.ReaderLemmas.ReaderLemmas.{and_more, and_found, read_after, stopped_after, shortens}
+use Rattle.ini_text.proofs.ReaderLemmas.ReaderLemmas.{and_more, and_found, read_after, stopped_after}
+use Rattle.ini_text.proofs.ReaderLemmas.ReaderLemmas.{shortens}
 use Rattle.ini_text.proofs.ReaderLemmas.NoteLemmas.{other_text}
 use Rattle.ini_text.proofs.ReaderLemmas.RunReaderLemmas.{run-sound}
-use Rattle.ini_text.proofs.ReaderLemmas.ValueReaderLemmas.{lines-turn, goes_on, row-sound, row-comment, blank-apart, comment_line, joined}
+use Rattle.ini_text.proofs.ReaderLemmas.ValueReaderLemmas.{lines-turn, goes_on, row-sound, row-comment}
+use Rattle.ini_text.proofs.ReaderLemmas.ValueReaderLemmas.{blank-apart, comment_line, joined}
 use Rattle.ini_text.specs.declared.option.ParseOption.{ParseOption}
 
 module _ (o : ParseOption) where

@@ -1,8 +1,10 @@
 -- Readers: that they find what the grammar says of a text, and nothing else; and how a result gives what
 -- they answer.
-use Rattle.std.proofs.Common.{ap, ◌≡◌, ℕ, zero, suc, ◌<◌, List, [], ◌++◌, length, refl, sym, ◌∙◌, subst, append_assoc, arith, chars, Result, MatchResult, Ok, Err, IsErrAnd}
+use Rattle.std.proofs.Common.{ap, ◌≡◌, ℕ, zero, suc, ◌<◌, List, [], ◌++◌, length, refl, sym, ◌∙◌, subst}
+use Rattle.std.proofs.Common.{append_assoc, arith, chars, Result, MatchResult, Ok, Err, IsErrAnd}
 use Rattle.std.proofs.lemmas.Str.{chars-nil}
-use Rattle.ini_text.specs.Inside.Reading.{Answer, found, stopped, prepend, and_then, Step, more, ends, go_on, in_steps, read_by, StopsBy}
+use Rattle.ini_text.specs.Inside.Reading.{Answer, found, stopped, prepend, and_then, Step, more, ends, go_on}
+use Rattle.ini_text.specs.Inside.Reading.{in_steps, read_by, StopsBy}
 use Rattle.ini_text.specs.declared.error.ParseKind.{ParseKind}
 use Rattle.ini_text.specs.declared.parser.fault.Stop.{Stop}
 use Rattle.ini_text.specs.declared.parser.fault.Stop.TheVariants as stops

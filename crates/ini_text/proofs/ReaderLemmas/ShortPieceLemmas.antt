@@ -1,7 +1,12 @@
 -- Short pieces of a string, as they are gathered.
-use Rattle.std.proofs.Common.{◌+◌, ◌≡◌, ◌≢◌, ℕ, ◌<◌, ◌≤◌, Bool, true, false, not, List, [], ◌∷◌, Option, Some, None, IfSome, length, drop, take, get_or, ◌++◌, append-nil, append_assoc, length-append, length-drop, unwrap_or, refl, sym, ap, ◌∙◌, subst, arith, chars, IsUtf8, IsCharBoundary, encode_utf8, ne_eqb}
+use Rattle.std.proofs.Common.{◌+◌, ◌≡◌, ◌≢◌, ℕ, ◌<◌, ◌≤◌, Bool, true, false, not, List, [], ◌∷◌, Option, Some}
+use Rattle.std.proofs.Common.{None, IfSome, length, drop, take, get_or, ◌++◌, append-nil, append_assoc}
+use Rattle.std.proofs.Common.{length-append, length-drop, unwrap_or, refl, sym, ap, ◌∙◌, subst, arith, chars}
+use Rattle.std.proofs.Common.{IsUtf8, IsCharBoundary, encode_utf8, ne_eqb}
 use Rattle.std.proofs.lemmas.List.{drop-drop, get_or-drop}
-use Rattle.std.proofs.lemmas.Str.{chars-append, chars-encodes, chars_past_char, encode_ascii, IsCharBoundary-after_ascii, IsCharBoundary-from_rest, IsUtf8-append, IsUtf8-drop, IsUtf8-encode, IsUtf8-past_char, IsUtf8-take}
+use Rattle.std.proofs.lemmas.Str.{chars-append, chars-encodes, chars_past_char, encode_ascii}
+use Rattle.std.proofs.lemmas.Str.{IsCharBoundary-after_ascii, IsCharBoundary-from_rest, IsUtf8-append}
+use Rattle.std.proofs.lemmas.Str.{IsUtf8-drop, IsUtf8-encode, IsUtf8-past_char, IsUtf8-take}
 use Rattle.std.proofs.Math.Bool.{and-true}
 use Rattle.std.proofs.Math.Seq.{drop-cons}
 use Rattle.std.specs.Char.{IsScalar}
@@ -18,7 +23,8 @@ use Rattle.ini_text.specs.Inside.Scans.{is_raw}
 use Rattle.ini_text.specs.Inside.ShortPieces.{IsEscape, IsShort, Sees}
 use Rattle.ini_text.specs.Inside.StringReader.{coded_character, string}
 use Rattle.ini_text.proofs.ReaderLemmas.ReaderLemmas.{prepend-nil, prepend-prepend}
-use Rattle.ini_text.proofs.ReaderLemmas.StringReaderLemmas.{string_run_without_notes, string_pair, string_coded, coded_digits, coded_shortens}
+use Rattle.ini_text.proofs.ReaderLemmas.StringReaderLemmas.{string_run_without_notes, string_pair}
+use Rattle.ini_text.proofs.ReaderLemmas.StringReaderLemmas.{string_coded, coded_digits, coded_shortens}
 use Rattle.ini_text.proofs.StringLemmas.LaneLemmas.{Tells-same, same_run, stops_at}
 use Rattle.ini_text.proofs.StringLemmas.RunLemmas.{boundary, split_chars, run_chars}
 

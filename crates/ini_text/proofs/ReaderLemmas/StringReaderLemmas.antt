@@ -1,7 +1,11 @@
 -- Reading a string by steps that each take a piece: the reader finds what the grammar says, and the code
 -- gives it.
-use Rattle.std.proofs.Common.{◌≡◌, ◌≢◌, ℕ, zero, suc, ◌+◌, ◌-◌, ◌<◌, Bool, true, false, not, ◌&&◌, ◌||◌, ◌==◌, if◌then◌else◌, List, [], ◌∷◌, ◌++◌, length, Option, Some, None, inl, inr, unwrap_or, refl, sym, ap, ◌∙◌, subst, subst₂, append_assoc, append-nil, length-append, arith, ne_eqb, eq-eqb, eqb-true, true≢false}
-use Rattle.std.proofs.lemmas.Bool.{both_ways, cases_Bool, cond_both, eqb-false, false_from_ne_true, and_parts, or_cases, not-true, not-false}
+use Rattle.std.proofs.Common.{◌≡◌, ◌≢◌, ℕ, zero, suc, ◌+◌, ◌-◌, ◌<◌, Bool, true, false, not, ◌&&◌, ◌||◌, ◌==◌}
+use Rattle.std.proofs.Common.{if◌then◌else◌, List, [], ◌∷◌, ◌++◌, length, Option, Some, None, inl, inr}
+use Rattle.std.proofs.Common.{unwrap_or, refl, sym, ap, ◌∙◌, subst, subst₂, append_assoc, append-nil}
+use Rattle.std.proofs.Common.{length-append, arith, ne_eqb, eq-eqb, eqb-true, true≢false}
+use Rattle.std.proofs.lemmas.Bool.{both_ways, cases_Bool, cond_both, eqb-false, false_from_ne_true, and_parts}
+use Rattle.std.proofs.lemmas.Bool.{or_cases, not-true, not-false}
 use Rattle.std.proofs.Math.Bool.{and-false}
 use Rattle.std.proofs.lemmas.Option.{cond_some}
 use Rattle.std.specs.Char.{is_digit}
@@ -10,19 +14,27 @@ use Rattle.ini_text.specs.declared.option.LoneLine.{LoneLine}
 use Rattle.ini_text.specs.declared.option.LoneLine.TheVariants.{RunsOn, Refused, Key}
 use Rattle.ini_text.specs.declared.error.ParseKind.{ParseKind}
 use Rattle.ini_text.specs.declared.error.ParseKind.TheVariants.{EndOfText}
-use Rattle.ini_text.specs.Grammar.CharacterKinds.{backslash, line_feed, plus, letter_x, begins, BeginsWithNo, is_blank, is_comment_mark}
-use Rattle.ini_text.specs.Grammar.EscapeSequences.{control, spelled, EscapeSequence, Units, spelled_by, EscapeStops}
+use Rattle.ini_text.specs.Grammar.CharacterKinds.{backslash, line_feed, plus, letter_x, begins, BeginsWithNo}
+use Rattle.ini_text.specs.Grammar.CharacterKinds.{is_blank, is_comment_mark}
+use Rattle.ini_text.specs.Grammar.EscapeSequences.{control, spelled, EscapeSequence, Units, spelled_by}
+use Rattle.ini_text.specs.Grammar.EscapeSequences.{EscapeStops}
 use Rattle.ini_text.specs.Options.ReadOptions.{backslash_of}
 use Rattle.ini_text.specs.declared.option.ParseOption.{ParseOption}
-use Rattle.ini_text.specs.Options.Backslashes.{Backslash, Escape, Kept, Raw, is_special, reads_escapes, begins_escape}
-use Rattle.ini_text.specs.Grammar.Strings.{Ends, is_endpoint, is_before_note, key_ends, Row, Closes, Str, StrStops}
+use Rattle.ini_text.specs.Options.Backslashes.{Backslash, Escape, Kept, Raw, is_special, reads_escapes}
+use Rattle.ini_text.specs.Options.Backslashes.{begins_escape}
+use Rattle.ini_text.specs.Grammar.Strings.{Ends, is_endpoint, is_before_note, key_ends, Row, Closes, Str}
+use Rattle.ini_text.specs.Grammar.Strings.{StrStops}
 use Rattle.ini_text.specs.declared.parser.endpoints.Endpoints.{Endpoints}
 use Rattle.ini_text.specs.declared.parser.endpoints.Endpoints.TheVariants as endpoints
 use Rattle.ini_text.specs.Inside.Endpoints.{ends_of}
 use Rattle.ini_text.specs.Inside.Reading.{Answer, found, stopped, prepend, and_then, Step, more, ends, go_on}
 use Rattle.ini_text.specs.Inside.Scans.{is_raw, is_run, ends_before_note, EndsRun}
-use Rattle.ini_text.specs.Inside.StringReader.{folded_unit, units, character, spelled_character, coded_character, value_after_backslash, as_step, escape, piece, string}
-use Rattle.ini_text.proofs.ReaderLemmas.ReaderLemmas.{prepend-nil, prepend-prepend, Says, IsReader, StepSays, prefixed, and_found, and_stopped, read_after, turn, shortens, reads}
+use Rattle.ini_text.specs.Inside.StringReader.{folded_unit, units, character, spelled_character}
+use Rattle.ini_text.specs.Inside.StringReader.{coded_character, value_after_backslash, as_step, escape, piece}
+use Rattle.ini_text.specs.Inside.StringReader.{string}
+use Rattle.ini_text.proofs.ReaderLemmas.ReaderLemmas.{prepend-nil, prepend-prepend, Says, IsReader, StepSays}
+use Rattle.ini_text.proofs.ReaderLemmas.ReaderLemmas.{prefixed, and_found, and_stopped, read_after, turn}
+use Rattle.ini_text.proofs.ReaderLemmas.ReaderLemmas.{shortens, reads}
 
 digit-apart : (c : ℕ) → is_digit c 16 ≡ true → c ≢ backslash
 digit-apart c h q = let z = subst (λ x. is_digit x 16 ≡ true) q h in cc

@@ -1,9 +1,12 @@
 -- Trivia, by the character with which they begin, and rows of them.
-use Rattle.std.proofs.Common.{◌≡◌, ◌≤◌, ◌<◌, ℕ, true, false, List, [], ◌∷◌, ◌++◌, length, refl, sym, ap, ◌∙◌, subst, append_assoc, arith, length-append, inl, inr, eqb-true, Option, Some, None, MatchOption, ◌&&◌, ◌==◌}
+use Rattle.std.proofs.Common.{◌≡◌, ◌≤◌, ◌<◌, ℕ, true, false, List, [], ◌∷◌, ◌++◌, length, refl, sym, ap, ◌∙◌}
+use Rattle.std.proofs.Common.{subst, append_assoc, arith, length-append, inl, inr, eqb-true, Option, Some}
+use Rattle.std.proofs.Common.{None, MatchOption, ◌&&◌, ◌==◌}
 use Rattle.std.proofs.lemmas.Bool.{cases_Bool, and_parts, cond-true, cond-false, false≢true, not-false}
 use Rattle.std.specs.Char.{is_whitespace}
 use Rattle.std.specs.List.{list_all}
-use Rattle.ini_text.specs.Grammar.CharacterKinds.{line_feed, begins, is_blank, is_comment_mark, is_line_end, BeginsWithNo}
+use Rattle.ini_text.specs.Grammar.CharacterKinds.{line_feed, begins, is_blank, is_comment_mark, is_line_end}
+use Rattle.ini_text.specs.Grammar.CharacterKinds.{BeginsWithNo}
 use Rattle.ini_text.specs.Grammar.Elements.{Gap, Element, may_have_note}
 use Rattle.ini_text.specs.Grammar.Keys.{Indentation, begins_note}
 use Rattle.ini_text.specs.Grammar.Lines.{Note}
@@ -14,9 +17,11 @@ use Rattle.ini_text.specs.Inside.TriviaSearch.{past_end, past_first, past_line_e
 use Rattle.ini_text.specs.Parsing.Fronts.{front_of, IsRest}
 use Rattle.ini_text.specs.Parsing.Trivia.{IsTrivia, BeginsWithNoTrivia, AreTrivia, SkipsTrivia}
 use Rattle.ini_text.specs.declared.option.ParseOption.{ParseOption}
-use Rattle.ini_text.proofs.GrammarLemmas.KindLemmas.{comment_mark-apart, comment_mark-in_line, line_end_no_blank}
+use Rattle.ini_text.proofs.GrammarLemmas.KindLemmas.{comment_mark-apart, comment_mark-in_line}
+use Rattle.ini_text.proofs.GrammarLemmas.KindLemmas.{line_end_no_blank}
 use Rattle.ini_text.proofs.StringLemmas.FrontLemmas.{front_grows}
-use Rattle.ini_text.proofs.ReaderLemmas.NoteLemmas.{no_mark_no_note, note_at, note_before, note_read, past_mark, some_note}
+use Rattle.ini_text.proofs.ReaderLemmas.NoteLemmas.{no_mark_no_note, note_at, note_before, note_read}
+use Rattle.ini_text.proofs.ReaderLemmas.NoteLemmas.{past_mark, some_note}
 use Rattle.ini_text.proofs.ReaderLemmas.RunReaderLemmas.{run-finds, run-sound}
 
 module _ (o : ParseOption) where

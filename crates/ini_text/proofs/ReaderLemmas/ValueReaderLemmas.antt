@@ -1,27 +1,34 @@
 -- Reading a value by its first line and the lines with which it goes on: the reader finds what the grammar
 -- says, and the code gives it.
-use Rattle.std.proofs.Common.{◌≡◌, ◌≢◌, ◌≤◌, ℕ, ◌<◌, Bool, true, false, ◌==◌, List, [], ◌∷◌, ◌++◌, length, Option, Some, None, inl, inr, refl, sym, ap, ◌∙◌, subst, append_assoc, append-nil, length-append, arith, ne_eqb, eqb-true}
+use Rattle.std.proofs.Common.{◌≡◌, ◌≢◌, ◌≤◌, ℕ, ◌<◌, Bool, true, false, ◌==◌, List, [], ◌∷◌, ◌++◌, length}
+use Rattle.std.proofs.Common.{Option, Some, None, inl, inr, refl, sym, ap, ◌∙◌, subst, append_assoc}
+use Rattle.std.proofs.Common.{append-nil, length-append, arith, ne_eqb, eqb-true}
 use Rattle.std.proofs.Math.Bool.{or-false}
 use Rattle.std.proofs.lemmas.Bool.{cases_Bool, cond_both, and_parts, or_parts}
 use Rattle.std.proofs.lemmas.List.{append_cancel_left}
 use Rattle.std.specs.List.{list_all}
 use Rattle.ini_text.specs.declared.option.ParseOption.{ParseOption}
 use Rattle.ini_text.specs.declared.error.ParseKind.{ParseKind}
-use Rattle.ini_text.specs.Grammar.CharacterKinds.{line_feed, carriage_return, begins, is_blank, is_line_end, is_inline_white, BeginsWith, BeginsWithNo}
+use Rattle.ini_text.specs.Grammar.CharacterKinds.{line_feed, carriage_return, begins, is_blank, is_line_end}
+use Rattle.ini_text.specs.Grammar.CharacterKinds.{is_inline_white, BeginsWith, BeginsWithNo}
 use Rattle.ini_text.specs.Grammar.WhiteSpace.{Lead, without_outer_line_feeds}
 use Rattle.ini_text.specs.Grammar.Strings.{plain_ends, Closes}
 use Rattle.ini_text.specs.Grammar.Keys.{begins_note}
 use Rattle.ini_text.specs.Grammar.Lines.{Line, Note}
-use Rattle.ini_text.specs.Grammar.Values.{CommentLine, GoesOn, LineEnd, MoreLines, Value, MoreLinesStop, ValueStops}
+use Rattle.ini_text.specs.Grammar.Values.{CommentLine, GoesOn, LineEnd, MoreLines, Value, MoreLinesStop}
+use Rattle.ini_text.specs.Grammar.Values.{ValueStops}
 use Rattle.ini_text.specs.Inside.LineReader.{line}
-use Rattle.ini_text.specs.Inside.Reading.{Answer, found, stopped, prepend, altered_answer, Step, more, ends, go_on}
+use Rattle.ini_text.specs.Inside.Reading.{Answer, found, stopped, prepend, altered_answer, Step, more, ends}
+use Rattle.ini_text.specs.Inside.Reading.{go_on}
 use Rattle.ini_text.specs.Inside.Scans.{is_line_part, run_of, skipped}
 use Rattle.ini_text.specs.Inside.StringReader.{as_step}
-use Rattle.ini_text.specs.Inside.ValueReader.{past_cr, after_end, after_note, empty_cr, after_line, indented_line, row, more_lines, multiline_value, value}
+use Rattle.ini_text.specs.Inside.ValueReader.{past_cr, after_end, after_note, empty_cr, after_line}
+use Rattle.ini_text.specs.Inside.ValueReader.{indented_line, row, more_lines, multiline_value, value}
 use Rattle.ini_text.proofs.GrammarLemmas.KindLemmas.{blank_inline}
 use Rattle.ini_text.proofs.ReaderLemmas.ReaderLemmas.{Says, IsReader, StepSays, prefixed, turn, reads}
 use Rattle.ini_text.proofs.ReaderLemmas.LineReaderLemmas.{LineSays, line-reads}
-use Rattle.ini_text.proofs.ReaderLemmas.NoteLemmas.{LineTail-closes, no_note, note_read, other_text, past_mark, some_note}
+use Rattle.ini_text.proofs.ReaderLemmas.NoteLemmas.{LineTail-closes, no_note, note_read, other_text}
+use Rattle.ini_text.proofs.ReaderLemmas.NoteLemmas.{past_mark, some_note}
 use Rattle.ini_text.proofs.ReaderLemmas.RunReaderLemmas.{BeginsWith-some, run-finds, run-sound}
 
 -- a line end, and what follows it

@@ -1,5 +1,6 @@
 -- Line feeds taken off the ends of a text one by one.
-use Rattle.std.proofs.Common.{◌≡◌, ◌≢◌, ◌<◌, ℕ, true, false, ◌&&◌, ◌==◌, cond, eqb, List, [], ◌∷◌, ◌++◌, length, refl, sym, ap, ◌∙◌, arith, length-append, ne_eqb}
+use Rattle.std.proofs.Common.{◌≡◌, ◌≢◌, ◌<◌, ℕ, true, false, ◌&&◌, ◌==◌, cond, eqb, List, [], ◌∷◌, ◌++◌}
+use Rattle.std.proofs.Common.{length, refl, sym, ap, ◌∙◌, arith, length-append, ne_eqb}
 use Rattle.std.proofs.lemmas.Bool.{and_right, cond-false}
 use Rattle.ini_text.specs.Grammar.CharacterKinds.{line_feed, is_line_feed}
 use Rattle.ini_text.specs.Grammar.WhiteSpace.{skip_line_feeds, drop_line_feeds, without_outer_line_feeds}

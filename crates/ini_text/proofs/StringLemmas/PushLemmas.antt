@@ -1,8 +1,11 @@
 -- What is appended to a string, as characters.
-use Rattle.std.proofs.Common.{◌≡◌, ◌≢◌, ℕ, arith, ◌<◌, get_or, List, [], ◌∷◌, ◌++◌, sym, ap, ◌∙◌, append-nil, chars, IsUtf8, IsCharBoundary, encode_utf8, encode_utf8_all, take, drop, length, true, refl, Result, Ok, Err, OnOk, is_ok, if◌then◌else◌}
+use Rattle.std.proofs.Common.{◌≡◌, ◌≢◌, ℕ, arith, ◌<◌, get_or, List, [], ◌∷◌, ◌++◌, sym, ap, ◌∙◌, append-nil}
+use Rattle.std.proofs.Common.{chars, IsUtf8, IsCharBoundary, encode_utf8, encode_utf8_all, take, drop, length}
+use Rattle.std.proofs.Common.{true, refl, Result, Ok, Err, OnOk, is_ok, if◌then◌else◌}
 use Rattle.std.proofs.Math.Bool.{and-true}
 use Rattle.std.proofs.lemmas.Bool.{and_parts}
-use Rattle.std.proofs.lemmas.Str.{chars-append, chars-encodes, chars-nil, chars_past_char, encode_ascii, encodes-chars, encodes-append, scalars-chars, IsCharBoundary-at_seam}
+use Rattle.std.proofs.lemmas.Str.{chars-append, chars-encodes, chars-nil, chars_past_char, encode_ascii}
+use Rattle.std.proofs.lemmas.Str.{encodes-chars, encodes-append, scalars-chars, IsCharBoundary-at_seam}
 use Rattle.std.proofs.Math.Seq.{take-append_seam, drop-append_seam}
 use Rattle.std.specs.Str.{all_scalars}
 use lib.Utf8.{scalar}

@@ -1,11 +1,16 @@
 -- Runs of bytes, as runs of characters.
-use Rattle.std.proofs.Common.{◌≡◌, ℕ, suc, ◌+◌, ◌<◌, ◌≤◌, Bool, true, false, not, List, [], ◌∷◌, ◌++◌, length, take, drop, refl, sym, ap, ◌∙◌, subst, arith, inl, inr, IsUtf8, IsCharBoundary, encode_utf8, encode_utf8_all, chars, take-append-drop, cond, get_or, one-add, true≢false}
+use Rattle.std.proofs.Common.{◌≡◌, ℕ, suc, ◌+◌, ◌<◌, ◌≤◌, Bool, true, false, not, List, [], ◌∷◌, ◌++◌, length}
+use Rattle.std.proofs.Common.{take, drop, refl, sym, ap, ◌∙◌, subst, arith, inl, inr, IsUtf8, IsCharBoundary}
+use Rattle.std.proofs.Common.{encode_utf8, encode_utf8_all, chars, take-append-drop, cond, get_or, one-add}
+use Rattle.std.proofs.Common.{true≢false}
 use Rattle.std.specs.List.{list_all, prefix_len}
 use Rattle.std.proofs.lemmas.List.Folds.{list_all-append}
 use Rattle.std.proofs.lemmas.List.Sums.{prefix_len-le-length, prefix_len_stops}
 use Rattle.std.proofs.lemmas.Bool.{cases_lt, and_parts}
 use Rattle.std.proofs.lemmas.Bool.Decides.{nat_tests}
-use Rattle.std.proofs.lemmas.Str.{IsCharBoundary-before_ascii, IsCharBoundary-end, encode_ascii, encodes-chars, IsUtf8-take, IsUtf8-drop, chars-append, chars_past_char, chars-nil}
+use Rattle.std.proofs.lemmas.Str.{IsCharBoundary-before_ascii, IsCharBoundary-end, encode_ascii}
+use Rattle.std.proofs.lemmas.Str.{encodes-chars, IsUtf8-take, IsUtf8-drop, chars-append, chars_past_char}
+use Rattle.std.proofs.lemmas.Str.{chars-nil}
 use Rattle.std.proofs.Math.Seq.{drop-cons}
 use Rattle.std.proofs.lemmas.List.{drop_all}
 use Rattle.ini_text.specs.Inside.Scans.{is_raw, skipped}
@@ -17,7 +22,8 @@ use Rattle.ini_text.specs.declared.option.LoneLine.{LoneLine}
 use Rattle.ini_text.specs.declared.option.LoneLine.TheVariants as lines
 use Rattle.ini_text.specs.declared.option.ParseOption.{ParseOption}
 use Rattle.ini_text.specs.declared.parser.endpoints.Endpoints.{Endpoints}
-use Rattle.ini_text.specs.declared.parser.endpoints.Endpoints.TheVariants.{Name, BracketedName, Key, DoubleQuotes, SingleQuotes, Plain}
+use Rattle.ini_text.specs.declared.parser.endpoints.Endpoints.TheVariants.{Name, BracketedName, Key}
+use Rattle.ini_text.specs.declared.parser.endpoints.Endpoints.TheVariants.{DoubleQuotes, SingleQuotes, Plain}
 
 chars_pass : (p : ℕ → Bool) → ((c : ℕ) → 128 ≤ c → p c ≡ true) → (cs : List ℕ)
     → list_all p (encode_utf8_all cs) ≡ true → list_all p cs ≡ true

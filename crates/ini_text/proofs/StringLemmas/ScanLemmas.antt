@@ -1,6 +1,9 @@
 -- Runs at the front of a text, and the front before a rest.
-use Rattle.std.proofs.Common.{◌≡◌, ◌≤◌, ℕ, ◌-◌, Bool, true, false, ◌&&◌, List, [], ◌∷◌, ◌++◌, length, take, refl, sym, ap, ◌∙◌, append-nil, arith, length-append, subst, chars, IsUtf8, IsCharBoundary, encode_utf8, encode_utf8_all}
-use Rattle.std.proofs.lemmas.Str.{chars-append, chars-encodes, encodes-append, encodes-chars, scalars-chars, IsCharBoundary-at_seam, length-le-encodes, cons_from_encodes}
+use Rattle.std.proofs.Common.{◌≡◌, ◌≤◌, ℕ, ◌-◌, Bool, true, false, ◌&&◌, List, [], ◌∷◌, ◌++◌, length, take}
+use Rattle.std.proofs.Common.{refl, sym, ap, ◌∙◌, append-nil, arith, length-append, subst, chars, IsUtf8}
+use Rattle.std.proofs.Common.{IsCharBoundary, encode_utf8, encode_utf8_all}
+use Rattle.std.proofs.lemmas.Str.{chars-append, chars-encodes, encodes-append, encodes-chars, scalars-chars}
+use Rattle.std.proofs.lemmas.Str.{IsCharBoundary-at_seam, length-le-encodes, cons_from_encodes}
 use Rattle.std.proofs.Math.Seq.{take-append_seam}
 use Rattle.std.specs.Str.{all_scalars}
 use lib.Utf8.{scalar}

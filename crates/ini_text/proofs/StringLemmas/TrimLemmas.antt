@@ -1,10 +1,14 @@
 -- Trimming a text trims its characters.
-use Rattle.std.proofs.Common.{◌≡◌, ℕ, Bool, true, false, ◌&&◌, ◌==◌, List, [], ◌∷◌, length, refl, sym, ap, ◌∙◌, subst, chars, IsUtf8, IsCharBoundary, ◌++◌, ◌+◌, ◌≤◌, ◌⊎◌, inl, inr, take, drop, arith, length-append, take-append-drop, Result, Ok, Err, OnOk}
+use Rattle.std.proofs.Common.{◌≡◌, ℕ, Bool, true, false, ◌&&◌, ◌==◌, List, [], ◌∷◌, length, refl, sym, ap}
+use Rattle.std.proofs.Common.{◌∙◌, subst, chars, IsUtf8, IsCharBoundary, ◌++◌, ◌+◌, ◌≤◌, ◌⊎◌, inl, inr, take}
+use Rattle.std.proofs.Common.{drop, arith, length-append, take-append-drop, Result, Ok, Err, OnOk}
 use Rattle.std.specs.declared.alloc.AllocError.{AllocError}
 use Rattle.std.proofs.lemmas.Bool.{and_parts, cond_both, cond-true, cond-false}
-use Rattle.std.proofs.lemmas.Str.{chars-encodes, scalars-chars, chars-append, IsUtf8-append, IsUtf8-take, IsCharBoundary-from_take}
+use Rattle.std.proofs.lemmas.Str.{chars-encodes, scalars-chars, chars-append, IsUtf8-append, IsUtf8-take}
+use Rattle.std.proofs.lemmas.Str.{IsCharBoundary-from_take}
 use Rattle.std.specs.Char.{is_whitespace}
-use Rattle.std.specs.Str.{all_scalars, skip_leading_whitespace, drop_trailing_whitespace, trim_start, trim_end, trim}
+use Rattle.std.specs.Str.{all_scalars, skip_leading_whitespace, drop_trailing_whitespace, trim_start}
+use Rattle.std.specs.Str.{trim_end, trim}
 use lib.Utf8.{scalar}
 use Rattle.std.proofs.lemmas.List.{length-take-le}
 use Rattle.std.proofs.Math.Seq.{take-append-add, take-append_seam}

@@ -1,16 +1,22 @@
 -- Derivations of written-out texts, put together from the front to the end. What the grammar asks of a plain
 -- part of a text, one without backslashes and quotes, is one test here, which computes.
-use Rattle.std.proofs.Common.{◌≡◌, ◌≢◌, inl, inr, ℕ, Bool, true, false, not, ◌&&◌, List, [], ◌∷◌, ◌++◌, refl, sym, ◌∙◌, append_assoc, subst}
+use Rattle.std.proofs.Common.{◌≡◌, ◌≢◌, inl, inr, ℕ, Bool, true, false, not, ◌&&◌, List, [], ◌∷◌, ◌++◌, refl}
+use Rattle.std.proofs.Common.{sym, ◌∙◌, append_assoc, subst}
 use Rattle.std.specs.Prelude.{◌==◌, if◌then◌else◌, Option, Some, map}
 use Rattle.std.specs.Char.{is_whitespace}
 use Rattle.std.specs.List.{list_all}
 use Rattle.std.proofs.lemmas.List.{append-nil}
-use Rattle.std.proofs.lemmas.Bool.{and_parts, and_cases, and_left, and_right, eqb-false, not-true, false≢true, both_ways}
-use Rattle.ini_text.specs.Grammar.CharacterKinds.{backslash, equals, double_quote, open_bracket, close_bracket, begins, is_blank, is_comment_mark, is_line_end, is_quote_mark, is_inline_white, BeginsWith, BeginsWithNo}
+use Rattle.std.proofs.lemmas.Bool.{and_parts, and_cases, and_left, and_right, eqb-false, not-true, false≢true}
+use Rattle.std.proofs.lemmas.Bool.{both_ways}
+use Rattle.ini_text.specs.Grammar.CharacterKinds.{backslash, equals, double_quote, open_bracket}
+use Rattle.ini_text.specs.Grammar.CharacterKinds.{close_bracket, begins, is_blank, is_comment_mark}
+use Rattle.ini_text.specs.Grammar.CharacterKinds.{is_line_end, is_quote_mark, is_inline_white, BeginsWith}
+use Rattle.ini_text.specs.Grammar.CharacterKinds.{BeginsWithNo}
 use Rattle.ini_text.specs.Grammar.Positions.{starts_line}
 use Rattle.ini_text.specs.Grammar.WhiteSpace.{Lead, trimmed, end_trimmed}
 use Rattle.ini_text.specs.Grammar.EscapeSequences.{Units}
-use Rattle.ini_text.specs.Grammar.Strings.{Ends, is_before_note, is_endpoint, Row, Str, Closes, name_ends, bracketed_name_ends, noted, noted_key_ends, quote_ends, plain_ends}
+use Rattle.ini_text.specs.Grammar.Strings.{Ends, is_before_note, is_endpoint, Row, Str, Closes, name_ends}
+use Rattle.ini_text.specs.Grammar.Strings.{bracketed_name_ends, noted, noted_key_ends, quote_ends, plain_ends}
 use Rattle.ini_text.specs.Grammar.Lines.{Quoted, Line, LineTail, LineText, Note, BeginsPlain, plain_value}
 use Rattle.ini_text.specs.Grammar.Values.{GoesOn, Value, ValueStops}
 use Rattle.ini_text.specs.Grammar.Keys.{Indentation, begins_key, begins_indented_key, begins_note, KeyFront}

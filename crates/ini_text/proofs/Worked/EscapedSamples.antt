@@ -2,7 +2,10 @@
 use Rattle.std.proofs.Common.{◌≡◌, [], ◌∷◌, refl}
 use Rattle.std.specs.Prelude.{codes}
 use Rattle.ini_text.specs.Escaping.EscapedTexts.{escape, escaped}
-use Rattle.ini_text.specs.declared.write.policy.EscapePolicy.TheVariants.{Nothing, Basics, BasicsUnicode, BasicsUnicodeExtended, Reserved, ReservedUnicode, ReservedUnicodeExtended}
+use Rattle.ini_text.specs.declared.write.policy.EscapePolicy.TheVariants.{Nothing, Basics, BasicsUnicode}
+use Rattle.ini_text.specs.declared.write.policy.EscapePolicy.TheVariants.{BasicsUnicodeExtended, Reserved}
+use Rattle.ini_text.specs.declared.write.policy.EscapePolicy.TheVariants.{ReservedUnicode}
+use Rattle.ini_text.specs.declared.write.policy.EscapePolicy.TheVariants.{ReservedUnicodeExtended}
 
 controls : escaped Basics (0x7C ∷ 0x07 ∷ 0x7C ∷ 0x08 ∷ 0x7C ∷ 0x7F ∷ 0x7C ∷ 0x1B ∷ 0x7C ∷ [])
     ≡ codes "|\\a|\\b|\\x007f|\\x001b|"

@@ -1,15 +1,19 @@
 -- Texts that are plain, and texts that aren't.
-use Rattle.std.proofs.Common.{◌≡◌, ◌≢◌, inl, inr, ℕ, Bool, true, false, not, ◌&&◌, ◌||◌, eqb, eqb-true, List, [], ◌∷◌, refl, ap, sym, subst}
+use Rattle.std.proofs.Common.{◌≡◌, ◌≢◌, inl, inr, ℕ, Bool, true, false, not, ◌&&◌, ◌||◌, eqb, eqb-true, List}
+use Rattle.std.proofs.Common.{[], ◌∷◌, refl, ap, sym, subst}
 use Rattle.std.specs.Prelude.{codes}
 use Rattle.std.specs.List.{list_all}
-use Rattle.std.proofs.lemmas.Bool.{false≢true, true≢false, and_parts, and_from, and_right, not-true, or_cases, both_ways, false_from_ne_true}
+use Rattle.std.proofs.lemmas.Bool.{false≢true, true≢false, and_parts, and_from, and_right, not-true, or_cases}
+use Rattle.std.proofs.lemmas.Bool.{both_ways, false_from_ne_true}
 use Rattle.ini_text.specs.Options.Backslashes.{is_special}
 use Rattle.ini_text.specs.Options.ReadOptions.{backslash_of, default_parse_option, with_raw_backslashes}
-use Rattle.ini_text.specs.Laws.Plain.{HasReadEscapes, HasNoEscapes, IsBareKey, IsPlainKey, IsPlainName, IsPlainSeparator, IsPlainValue, IsReadBack, has_unread_letter}
+use Rattle.ini_text.specs.Laws.Plain.{HasReadEscapes, HasNoEscapes, IsBareKey, IsPlainKey, IsPlainName}
+use Rattle.ini_text.specs.Laws.Plain.{IsPlainSeparator, IsPlainValue, IsReadBack, has_unread_letter}
 use Rattle.ini_text.specs.Escaping.Policies.{is_basic, is_escaped, is_extended}
 use Rattle.ini_text.specs.declared.option.ParseOption.{ParseOption}
 use Rattle.ini_text.specs.declared.write.policy.EscapePolicy.{EscapePolicy}
-use Rattle.ini_text.specs.declared.write.policy.EscapePolicy.TheVariants.{Nothing, Basics, Reserved, Everything}
+use Rattle.ini_text.specs.declared.write.policy.EscapePolicy.TheVariants.{Nothing, Basics, Reserved}
+use Rattle.ini_text.specs.declared.write.policy.EscapePolicy.TheVariants.{Everything}
 use Rattle.ini_text.proofs.PlainLemmas.EscapedTextLemmas.{basic-escaped}
 use Rattle.ini_text.proofs.Worked.WorkedNotes.{with_notes}
 

@@ -11,7 +11,8 @@ use Rattle.ini_text.specs.Grammar.Elements.{Element, ElementStops}
 use Rattle.ini_text.specs.Grammar.Elements.Given.{Pair}
 use Rattle.ini_text.specs.Grammar.Texts.{Derives}
 use Rattle.ini_text.specs.declared.error.ParseKind.TheVariants.{EndOfText}
-use Rattle.ini_text.proofs.Worked.DerivationLemmas.{derives, characters, raws, raws_before, one_line, pair_of, plain_pair, unquoted_line, whole_line, not_empty, white}
+use Rattle.ini_text.proofs.Worked.DerivationLemmas.{derives, characters, raws, raws_before, one_line, pair_of}
+use Rattle.ini_text.proofs.Worked.DerivationLemmas.{plain_pair, unquoted_line, whole_line, not_empty, white}
 use Rattle.ini_text.proofs.Worked.DerivationLemmas.RestGives.{whole, skip, give}
 use Rattle.ini_text.proofs.Worked.DerivationLemmas.RestStops.{stop, past}
 use Rattle.ini_text.proofs.Worked.WorkedRefusals.{StopsAt, stops_at}

@@ -8,7 +8,8 @@ use Rattle.ini_text.specs.Grammar.Texts.{Derives}
 use Rattle.ini_text.specs.declared.option.ParseOption.{ParseOption}
 use Rattle.ini_text.specs.declared.error.ParseKind.TheVariants.{HeaderEnd}
 use Rattle.ini_text.proofs.GrammarLemmas.BracketedNameLemmas.{no_name}
-use Rattle.ini_text.proofs.Worked.DerivationLemmas.{derives, plain_pair, plain_bracketed_header, white, raw_string}
+use Rattle.ini_text.proofs.Worked.DerivationLemmas.{derives, plain_pair, plain_bracketed_header, white}
+use Rattle.ini_text.proofs.Worked.DerivationLemmas.{raw_string}
 use Rattle.ini_text.proofs.Worked.DerivationLemmas.RestGives.{whole, skip, give}
 use Rattle.ini_text.proofs.Worked.DerivationLemmas.RestStops.{stop}
 use Rattle.ini_text.proofs.Worked.WorkedRefusals.{StopsAt, stops_at}

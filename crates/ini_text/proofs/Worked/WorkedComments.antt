@@ -12,7 +12,9 @@ use Rattle.ini_text.specs.Grammar.Elements.Given.{Pair}
 use Rattle.ini_text.specs.Grammar.Texts.{Derives}
 use Rattle.ini_text.specs.declared.option.ParseOption.{ParseOption}
 use Rattle.ini_text.specs.declared.error.ParseKind.TheVariants.{CrAlone}
-use Rattle.ini_text.proofs.Worked.DerivationLemmas.{derives, differs, goes_on, indentation, lead, not_empty, one_line, pair_of, plain_line, plain_pair, raws, stops_in_value_of, white}
+use Rattle.ini_text.proofs.Worked.DerivationLemmas.{derives, differs, goes_on, indentation, lead, not_empty}
+use Rattle.ini_text.proofs.Worked.DerivationLemmas.{one_line, pair_of, plain_line, plain_pair, raws}
+use Rattle.ini_text.proofs.Worked.DerivationLemmas.{stops_in_value_of, white}
 use Rattle.ini_text.proofs.Worked.DerivationLemmas.RestGives.{whole, skip, give}
 use Rattle.ini_text.proofs.Worked.DerivationLemmas.RestStops.{stop}
 use Rattle.ini_text.proofs.Worked.WorkedRefusals.{StopsAt, stops_at}

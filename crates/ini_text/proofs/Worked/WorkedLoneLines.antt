@@ -11,7 +11,10 @@ use Rattle.ini_text.specs.Grammar.Texts.{Derives}
 use Rattle.ini_text.specs.declared.option.LoneLine.TheVariants.{RunsOn, Refused, Key}
 use Rattle.ini_text.specs.declared.option.ParseOption.{ParseOption}
 use Rattle.ini_text.specs.declared.error.ParseKind.TheVariants.{EndOfText, MissingKey, NoSeparator}
-use Rattle.ini_text.proofs.Worked.DerivationLemmas.{derives, differs, indentation, key_after_blanks, not_empty, one_line, pair_after_blanks, plain_header, plain_key, plain_line, plain_pair, raws, raws_before, units_before, white}
+use Rattle.ini_text.proofs.Worked.DerivationLemmas.{derives, differs, indentation, key_after_blanks}
+use Rattle.ini_text.proofs.Worked.DerivationLemmas.{not_empty, one_line, pair_after_blanks, plain_header}
+use Rattle.ini_text.proofs.Worked.DerivationLemmas.{plain_key, plain_line, plain_pair, raws, raws_before}
+use Rattle.ini_text.proofs.Worked.DerivationLemmas.{units_before, white}
 use Rattle.ini_text.proofs.Worked.DerivationLemmas.RestGives.{whole, skip, give}
 use Rattle.ini_text.proofs.Worked.DerivationLemmas.RestStops.{stop, past}
 use Rattle.ini_text.proofs.Worked.WorkedRefusals.{StopsAt, stops_at}

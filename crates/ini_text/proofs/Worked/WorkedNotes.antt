@@ -15,7 +15,10 @@ use Rattle.ini_text.specs.declared.option.LoneLine.TheVariants.{Refused, Key}
 use Rattle.ini_text.specs.declared.option.ParseOption.{ParseOption}
 use Rattle.ini_text.specs.declared.error.ParseKind.TheVariants.{HeaderEnd, NoSeparator}
 use Rattle.ini_text.proofs.GrammarLemmas.BracketedNameLemmas.{no_name}
-use Rattle.ini_text.proofs.Worked.DerivationLemmas.{derives, differs, goes_on, lead, not_empty, note_of, noted_line, noted_string, one_line, pair_of, plain_header, plain_line, plain_pair, quoted, raw_string, raws, raws_before, unquoted_line, white, whole_line}
+use Rattle.ini_text.proofs.Worked.DerivationLemmas.{derives, differs, goes_on, lead, not_empty, note_of}
+use Rattle.ini_text.proofs.Worked.DerivationLemmas.{noted_line, noted_string, one_line, pair_of, plain_header}
+use Rattle.ini_text.proofs.Worked.DerivationLemmas.{plain_line, plain_pair, quoted, raw_string, raws}
+use Rattle.ini_text.proofs.Worked.DerivationLemmas.{raws_before, unquoted_line, white, whole_line}
 use Rattle.ini_text.proofs.Worked.DerivationLemmas.RestGives.{whole, skip, give}
 use Rattle.ini_text.proofs.Worked.DerivationLemmas.RestStops.{stop}
 use Rattle.ini_text.proofs.Worked.WorkedRefusals.{StopsAt, stops_at}

@@ -11,8 +11,10 @@ use Rattle.ini_text.specs.Grammar.Texts.{Stops}
 use Rattle.ini_text.specs.Grammar.Positions.{line_of, column_of}
 use Rattle.ini_text.specs.declared.option.ParseOption.{ParseOption}
 use Rattle.ini_text.specs.declared.error.ParseKind.{ParseKind}
-use Rattle.ini_text.specs.declared.error.ParseKind.TheVariants.{EndOfText, BrokenEscape, UnknownCharacter, InlineComment, MissingKey, CrAlone}
-use Rattle.ini_text.proofs.Worked.DerivationLemmas.{stops, differs, plain_pair, white, raws, plain_key, plain_line, lead, stops_in_value_of, units_before}
+use Rattle.ini_text.specs.declared.error.ParseKind.TheVariants.{EndOfText, BrokenEscape, UnknownCharacter}
+use Rattle.ini_text.specs.declared.error.ParseKind.TheVariants.{InlineComment, MissingKey, CrAlone}
+use Rattle.ini_text.proofs.Worked.DerivationLemmas.{stops, differs, plain_pair, white, raws, plain_key}
+use Rattle.ini_text.proofs.Worked.DerivationLemmas.{plain_line, lead, stops_in_value_of, units_before}
 use Rattle.ini_text.proofs.Worked.DerivationLemmas.{RestStops}
 use Rattle.ini_text.proofs.Worked.DerivationLemmas.RestStops.{stop, past}
 use Rattle.ini_text.proofs.Worked.WorkedTexts.{with_multiline_values}

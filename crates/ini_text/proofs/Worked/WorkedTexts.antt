@@ -15,7 +15,10 @@ use Rattle.ini_text.specs.Grammar.Elements.{Element}
 use Rattle.ini_text.specs.Grammar.Elements.Given.{Header, Pair}
 use Rattle.ini_text.specs.Grammar.Texts.{Derives}
 use Rattle.ini_text.specs.declared.option.ParseOption.{ParseOption}
-use Rattle.ini_text.proofs.Worked.DerivationLemmas.{derives, differs, one_line, pair_of, plain_pair, plain_header, white, not_empty, raws, raws_before, plain_key, pair_after_blanks, plain_line, unquoted_line, whole_line, quoted, lead, indentation, goes_on}
+use Rattle.ini_text.proofs.Worked.DerivationLemmas.{derives, differs, one_line, pair_of, plain_pair}
+use Rattle.ini_text.proofs.Worked.DerivationLemmas.{plain_header, white, not_empty, raws, raws_before}
+use Rattle.ini_text.proofs.Worked.DerivationLemmas.{plain_key, pair_after_blanks, plain_line, unquoted_line}
+use Rattle.ini_text.proofs.Worked.DerivationLemmas.{whole_line, quoted, lead, indentation, goes_on}
 use Rattle.ini_text.proofs.Worked.DerivationLemmas.RestGives.{whole, skip, give}
 
 -- The options that differ from the default in one field; `without_escapes` is another.

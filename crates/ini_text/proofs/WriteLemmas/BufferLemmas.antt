@@ -1,8 +1,10 @@
 -- Bytes that are appended to those of a buffer.
-use Rattle.std.proofs.Common.{◌≡◌, ℕ, ◌+◌, ◌≤◌, List, [], ◌++◌, length, take, drop, ap, ap₂, ◌∙◌, sym, arith, append_assoc, append-nil}
+use Rattle.std.proofs.Common.{◌≡◌, ℕ, ◌+◌, ◌≤◌, List, [], ◌++◌, length, take, drop, ap, ap₂, ◌∙◌, sym, arith}
+use Rattle.std.proofs.Common.{append_assoc, append-nil}
 use lib.Lanes.{chunk}
 use Rattle.std.proofs.Math.Seq.{take-append_seam}
-use Rattle.std.proofs.lemmas.List.{length-drop, length-take, take-append-drop, take-append-le, take-take, take_all}
+use Rattle.std.proofs.lemmas.List.{length-drop, length-take, take-append-drop, take-append-le, take-take}
+use Rattle.std.proofs.lemmas.List.{take_all}
 use Rattle.ini_text.specs.Buffered.{IsFront}
 
 -- a run and a piece, appended to the first bytes

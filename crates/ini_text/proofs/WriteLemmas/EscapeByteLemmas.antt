@@ -1,12 +1,15 @@
 -- The bytes of escapes, and of a text that begins with a character that is escaped.
-use Rattle.std.proofs.Common.{◌≡◌, ◌≢◌, ◌∙◌, sym, ℕ, zero, suc, ◌<◌, true, false, not, subst, List, [], length, ◌∷◌, ◌++◌, refl, ap, arith, eqb-true, get_or, nat_eq, cond, Some, None, Option, encode_utf8_all}
+use Rattle.std.proofs.Common.{◌≡◌, ◌≢◌, ◌∙◌, sym, ℕ, zero, suc, ◌<◌, true, false, not, subst, List, []}
+use Rattle.std.proofs.Common.{length, ◌∷◌, ◌++◌, refl, ap, arith, eqb-true, get_or, nat_eq, cond, Some, None}
+use Rattle.std.proofs.Common.{Option, encode_utf8_all}
 use Rattle.std.specs.Str.{IsAscii}
 use Rattle.ini_text.specs.declared.write.escape.TheConstants.{LETTERS}
 use Rattle.ini_text.proofs.StringLemmas.TableLemmas.{tested}
 use Rattle.std.proofs.lemmas.Bool.Decides.{nat_tests}
 use Rattle.std.proofs.lemmas.Str.{chars-nil, encodes-append, encodes-IsAscii}
 use Rattle.std.proofs.lemmas.Str.Ascii.{IsAscii-nil, IsAscii-cons}
-use Rattle.ini_text.specs.Escaping.EscapedTexts.{escape, escape_by, escaped, escaped_bytes, letter_of, hex_digits, digit_count}
+use Rattle.ini_text.specs.Escaping.EscapedTexts.{escape, escape_by, escaped, escaped_bytes, letter_of}
+use Rattle.ini_text.specs.Escaping.EscapedTexts.{hex_digits, digit_count}
 use Rattle.ini_text.specs.Escaping.Policies.{is_escaped}
 use Rattle.ini_text.specs.Grammar.CharacterKinds.{BeginsWithNo, backslash, letter_x}
 use Rattle.ini_text.specs.declared.write.policy.EscapePolicy.{EscapePolicy}

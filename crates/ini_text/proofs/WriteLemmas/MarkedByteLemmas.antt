@@ -1,5 +1,7 @@
 -- Bytes of which each that is marked goes out as the escape of its character.
-use Rattle.std.proofs.Common.{◌≡◌, ◌≢◌, ℕ, None, zero, suc, ◌+◌, ◌<◌, ◌≤◌, Bool, true, false, not, cond, List, [], ◌∷◌, ◌++◌, length, take, drop, get_or, inl, inr, leb, refl, ap, ap₂, ◌∙◌, sym, arith, append_assoc, append-nil, IsUtf8, chars, encode_utf8_all, add-zero}
+use Rattle.std.proofs.Common.{◌≡◌, ◌≢◌, ℕ, None, zero, suc, ◌+◌, ◌<◌, ◌≤◌, Bool, true, false, not, cond, List}
+use Rattle.std.proofs.Common.{[], ◌∷◌, ◌++◌, length, take, drop, get_or, inl, inr, leb, refl, ap, ap₂, ◌∙◌}
+use Rattle.std.proofs.Common.{sym, arith, append_assoc, append-nil, IsUtf8, chars, encode_utf8_all, add-zero}
 use lib.Utf8.{encode}
 use Rattle.std.proofs.Math.Seq.{take-length}
 use Rattle.std.proofs.lemmas.Bool.Decides.{nat_tests}

@@ -1,5 +1,8 @@
 -- Where the run at the front of a text ends that a policy leaves as it is, found by the bytes.
-use Rattle.std.proofs.Common.{◌≡◌, ℕ, ◌+◌, ◌/◌, ◌<◌, ◌≤◌, Bool, true, false, not, ◌||◌, List, [], ◌∷◌, ◌++◌, refl, sym, ap, ◌∙◌, length, take, drop, get_or, arith, cond, inl, inr, IsUtf8, IsCharBoundary, chars, encode_utf8_all, get_or-drop, length-drop, take-append-drop, one-add, add-zero}
+use Rattle.std.proofs.Common.{◌≡◌, ℕ, ◌+◌, ◌/◌, ◌<◌, ◌≤◌, Bool, true, false, not, ◌||◌, List, [], ◌∷◌, ◌++◌}
+use Rattle.std.proofs.Common.{refl, sym, ap, ◌∙◌, length, take, drop, get_or, arith, cond, inl, inr, IsUtf8}
+use Rattle.std.proofs.Common.{IsCharBoundary, chars, encode_utf8_all, get_or-drop, length-drop}
+use Rattle.std.proofs.Common.{take-append-drop, one-add, add-zero}
 use lib.Utf8.{encode, next}
 use Rattle.std.specs.List.{list_all, position_or_len}
 use Rattle.std.proofs.lemmas.Bool.{cases_lt, and_parts}
@@ -7,7 +10,8 @@ use Rattle.std.proofs.lemmas.Bool.Decides.{nat_tests}
 use Rattle.std.proofs.lemmas.Grind.{flat_map-append}
 use Rattle.std.proofs.lemmas.List.Folds.{list_all-append}
 use Rattle.std.proofs.lemmas.List.Sums.{passes_at_first, prefix_len-le-length}
-use Rattle.std.proofs.lemmas.Str.{IsUtf8-drop, IsUtf8-take, chars-append, encode_ascii, encodes-append, encodes-chars}
+use Rattle.std.proofs.lemmas.Str.{IsUtf8-drop, IsUtf8-take, chars-append, encode_ascii, encodes-append}
+use Rattle.std.proofs.lemmas.Str.{encodes-chars}
 use Rattle.ini_text.specs.Grammar.CharacterKinds.{BeginsWithNo}
 use Rattle.ini_text.specs.Escaping.EscapedTexts.{escape, escaped, escaped_bytes}
 use Rattle.ini_text.specs.Escaping.Policies.{is_basic, is_escaped, is_reserved}

@@ -1,9 +1,9 @@
 -- Places: the stretches of which a pair's source is made, in order, and what each holds.
-use Rattle.std.specs.Prelude.{◌≡◌, ◌≢◌, ℕ, Bool, true, false, not, ◌||◌, List, [], ◌∷◌, ◌++◌, Option, Some, None}
+use Rattle.std.specs.Prelude.{◌≡◌, ◌≢◌, ℕ, Bool, true, false, not, ◌||◌, List, [], ◌∷◌, ◌++◌, Option, Some}
+use Rattle.std.specs.Prelude.{None}
 use Rattle.std.specs.List.{list_all}
-use Rattle.ini_text.specs.Grammar.CharacterKinds.{line_feed, carriage_return, backslash}
-use Rattle.ini_text.specs.Grammar.CharacterKinds.{is_line_feed, is_inline_white, is_separator}
-use Rattle.ini_text.specs.Grammar.CharacterKinds.{BeginsWithNo}
+use Rattle.ini_text.specs.Grammar.CharacterKinds.{line_feed, carriage_return, backslash, is_line_feed}
+use Rattle.ini_text.specs.Grammar.CharacterKinds.{is_inline_white, is_separator, BeginsWithNo}
 use Rattle.ini_text.specs.Grammar.Positions.{last_or}
 use Rattle.ini_text.specs.Grammar.WhiteSpace.{Lead}
 use Rattle.ini_text.specs.Grammar.Strings.{Closes, plain_ends}

@@ -1,13 +1,13 @@
 -- How the places of a pair are found in a text of which it is known what it gives.
-use Rattle.std.specs.Prelude.{◌≡◌, ℕ, true, List, [], ◌∷◌, ◌++◌, drop, ⊤, chars, Option, Some}
-use Rattle.std.specs.Prelude.{Result, MatchOption}
-use Rattle.std.specs.Prelude.{IfOk, MatchResult}
+use Rattle.std.specs.Prelude.{◌≡◌, ℕ, true, List, [], ◌∷◌, ◌++◌, drop, ⊤, chars, Option, Some, Result}
+use Rattle.std.specs.Prelude.{MatchOption, IfOk, MatchResult}
 use Rattle.std.specs.Borrow.{Bor}
 use Rattle.std.specs.List.{list_all}
 use Rattle.ini_text.specs.Grammar.CharacterKinds.{is_blank, is_inline_white, is_line_feed, is_separator}
 use Rattle.ini_text.specs.Grammar.CharacterKinds.{BeginsWith, BeginsWithNo}
 use Rattle.ini_text.specs.Grammar.Elements.{Pair, Element}
-use Rattle.ini_text.specs.Grammar.Places.{LastLine, OwnLines, SpaceAfter, TrailingLines, ArePlaced, pair_source}
+use Rattle.ini_text.specs.Grammar.Places.{LastLine, OwnLines, SpaceAfter, TrailingLines, ArePlaced}
+use Rattle.ini_text.specs.Grammar.Places.{pair_source}
 use Rattle.ini_text.specs.Grammar.Lines.{LineTail}
 use Rattle.ini_text.specs.Grammar.Values.{LineEnd, MoreLines}
 use Rattle.ini_text.specs.Grammar.WhiteSpace.{without_outer_line_feeds}

@@ -1,6 +1,5 @@
 -- Short pieces of a string, which are gathered in a block.
-use Rattle.std.specs.Prelude.{◌≡◌, ◌≤◌, ◌<◌, ◌+◌, ℕ, not, List, [], ◌∷◌, ◌++◌, take, drop, length}
-use Rattle.std.specs.Prelude.{chars}
+use Rattle.std.specs.Prelude.{◌≡◌, ◌≤◌, ◌<◌, ◌+◌, ℕ, not, List, [], ◌∷◌, ◌++◌, take, drop, length, chars}
 use Rattle.std.specs.Str.{IsUtf8, IsCharBoundary}
 use Rattle.ini_text.specs.Options.Backslashes.{Escape}
 use Rattle.ini_text.specs.Grammar.Strings.{Ends}

@@ -5,8 +5,8 @@ use Rattle.ini_text.specs.Grammar.CharacterKinds.{begins}
 use Rattle.ini_text.specs.Grammar.Keys.{begins_note}
 use Rattle.ini_text.specs.Grammar.WhiteSpace.{without_outer_line_feeds}
 use Rattle.ini_text.specs.Inside.LineReader.{line}
-use Rattle.ini_text.specs.Inside.Reading.{Answer, found, stopped, prepend, altered_answer, Step, more, ends, go_on}
-use Rattle.ini_text.specs.Inside.Reading.{read_by}
+use Rattle.ini_text.specs.Inside.Reading.{Answer, found, stopped, prepend, altered_answer, Step, more, ends}
+use Rattle.ini_text.specs.Inside.Reading.{go_on, read_by}
 use Rattle.ini_text.specs.Inside.Scans.{is_line_part, skipped}
 use Rattle.ini_text.specs.Inside.StringReader.{as_step}
 use Rattle.ini_text.specs.declared.error.ParseKind.TheVariants.{CrAlone}

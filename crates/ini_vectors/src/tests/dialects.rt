@@ -14,6 +14,7 @@ use std::test::Fail;
 mod encoding;
 mod flattened;
 mod layers;
+mod lists;
 mod merges;
 mod source;
 mod types;

@@ -3,7 +3,7 @@ use super::text_edits::show::put;
 use ini::{Error, Ini, ParseOption, WriteOption};
 use ini_dialect::{AnyDocument, Lookup};
 use ini_edit::{EditError, Source};
-use ini_layers::{Change, Conflict, FlatSides, Side, apply, diff, merge};
+use ini_layers::{Change, Conflict, FlatSides, Side, apply, commented, diff, merge};
 use std::alloc::Global;
 use std::panic::Expect;
 use std::process::Abort;
@@ -72,6 +72,36 @@ const ROWS: [(&str, &str, &str); 17] = [
     ("[a]\nk=1\n", "[A]\nK=1\n", "A K: none, 1\na k: 1, none\n"),
 ];
 
+/// Which comments differ between two texts.
+fn comment_difference(alloc: Global, from: &str, to: &str) -> Result<String, Error> {
+    let from = Source::read(alloc, from, ParseOption::default())?;
+    let to = Source::read(alloc, to, ParseOption::default())?;
+    let from = commented(alloc, &from)?;
+    let to = commented(alloc, &to)?;
+    let changes = diff(alloc, &from, &to)?;
+    shown(alloc, changes.as_slice())
+}
+
+/// Two texts, and which comments differ.
+const COMMENTS: [(&str, &str, &str); 6] = [
+    ("; a\nk=1\n", "\n; a\n k = 2\n; b\n", ""),
+    (
+        "; a\nk=1\nj=2\n",
+        "# b\n; a\nk=1\n; c\nj=3\n",
+        "general k: ; a\n, # b\n; a\n\ngeneral j: , ; c\n\n",
+    ),
+    // a blank line, or the section's header, stands between
+    ("; a\nk=1\n", "; a\n\nk=1\n", "general k: ; a\n, \n"),
+    ("; a\n[s]\nk=1\n", "[s]\nk=1\n", ""),
+    // the first pair in the first section
+    (
+        "[s]\n; x\nk=1\n; c\nk=2\n",
+        "[s]\n; y\nk=1\n; d\nk=2\n[s]\n; z\nk=1\n",
+        "s k: ; x\n, ; y\n\n",
+    ),
+    ("; a\nk=1\n", "", "general k: ; a\n, none\n"),
+];
+
 /// A text of one section with so many keys, each with its number as a value; `changed` has another one.
 fn many_keys(alloc: Global, count: usize, changed: usize) -> Result<String, Error> {
     let mut text = String::from_str(alloc, "[a]\n")?;
@@ -87,6 +117,10 @@ fn settings_that_differ_are_listed_once(rt: HostRuntime) {
     let alloc = rt.alloc();
     for (from, to, want) in ROWS {
         let got = difference(alloc, from, to).expect(&rt, "memory");
+        assert!(rt; got.as_str() == want, "{from}: {got}");
+    }
+    for (from, to, want) in COMMENTS {
+        let got = comment_difference(alloc, from, to).expect(&rt, "memory");
         assert!(rt; got.as_str() == want, "{from}: {got}");
     }
     let from = many_keys(alloc, 3000, 7).expect(&rt, "memory");

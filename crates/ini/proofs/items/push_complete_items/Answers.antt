@@ -1,5 +1,6 @@
 use Rattle.std.proofs.Common.{◌∙◌, Ok, ap, arith}
-use Rattle.ini.proofs.ReadingLemmas.{IsReading-goes_on, Settling-item, Settles-trivia, Settling-starts, chars-some}
+use Rattle.ini.proofs.ReadingLemmas.{IsReading-goes_on, Settling-item, Settles-trivia, Settling-starts}
+use Rattle.ini.proofs.ReadingLemmas.{chars-some}
 use Rattle.ini.proofs.items.push_complete_items.Goals as goal
 
 pub items-init : goal.items-init

@@ -20,8 +20,7 @@ use types.Kit.{Item, ‵, raw, ◌⊛◌, some, later, ◌$◌, ◌∵◌, !, qe
 use types.Kit.{move, drop, use1, use2, join, split, pick, rewrite, frame, fsplit, fsplit3, fjoin, fjoin3}
 use types.Kit.{feq_i, feq_l, fpick, prop, Sq}
 use types.SemTy.{Body as Borrowed}
-use types.Run.{stop, fld, assigns, returns, load, look_raw, store_raw, of_opd, addr, no_more, and_then}
-use types.Run.{enter}
+use types.Run.{stop, fld, assigns, returns, load, look_raw, store_raw, of_opd, addr, no_more, and_then, enter}
 use types.ByLocal.{alloc_all, pass_all, free_all, look_at, get, get_in, through, sets, lands_as}
 use types.Part.{whole, sub}
 use denote.Bor.{Bor}

@@ -7,10 +7,10 @@ loop-index-init c = AreLeft.none
 
 pub returns-in-Err-clause-refused : goal.returns-in-Err-clause-refused
 returns-in-Err-clause-refused c =
-    one_not_left c.args.rule c.args.write.now c.args.conflicts.now c.loop-index.index _ c.in-Err.refusal
+    one_not_left c.args.which c.args.rule c.args.write.now c.args.conflicts.now c.loop-index.index _ c.in-Err.refusal
     c.loop-index-test.true c.loop-index.invariant c.in-Err.ensures.refused
 
 pub loop-index-preserved : goal.loop-index-preserved
 loop-index-preserved c =
-    one_left c.args.rule c.args.write.now c.args.conflicts.now c.loop-index.index _ c.loop-index-test.true
+    one_left c.args.which c.args.rule c.args.write.now c.args.conflicts.now c.loop-index.index _ c.loop-index-test.true
     c.loop-index.invariant c.in_default.ensures.left

@@ -5,4 +5,4 @@ use Rattle.ini_file.proofs.left_conflicts.leave_each.Given as goal
 
 abbrev pub invariant-loop-index : goal.invariant-loop-index
 invariant-loop-index l =
-    AreLeft l.rule l.write l.fn.source (map setting_conflict (take l.index l.conflicts)) l.source
+    AreLeft l.which l.rule l.write l.fn.source (map setting_conflict (take l.index l.conflicts)) l.source

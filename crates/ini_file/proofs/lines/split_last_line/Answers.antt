@@ -2,7 +2,8 @@ use Rattle.std.proofs.Common.{◌≡◌, ℕ, ◌-◌, suc, get_or, arith}
 use Rattle.ini_text.specs.Grammar.CharacterKinds.{line_feed}
 use Rattle.ini_file.proofs.SplitLemmas.{IsLastLine-at}
 use Rattle.ini_file.proofs.lines.split_last_line.Goals as goal
-use Rattle.ini_file.proofs.lines.split_last_line.Goals.{else-back-test, then-back-test+then-bytes-at-eq-LINE_FEED}
+use Rattle.ini_file.proofs.lines.split_last_line.Goals.{else-back-test}
+use Rattle.ini_file.proofs.lines.split_last_line.Goals.{then-back-test+then-bytes-at-eq-LINE_FEED}
 
 pub returns : goal.returns
 returns c =

@@ -2,7 +2,8 @@ use Rattle.std.proofs.Common.{◌≡◌, ◌⊎◌, inl, inr, false, chars, ap, 
 use Rattle.std.proofs.lemmas.Str.{IsUtf8-string_bytes}
 use Rattle.ini_text.specs.Inside.Scans.{begins_white}
 use Rattle.ini_text.proofs.StringLemmas.TrimLemmas.{all_trimmed_from, end_trimmed_from, trimmed_boundary}
-use Rattle.ini_text.proofs.text.trim_from.Goals.{else-both-via-then-both+else-begins_white, else-both-via-else-both}
+use Rattle.ini_text.proofs.text.trim_from.Goals.{else-both-via-then-both+else-begins_white}
+use Rattle.ini_text.proofs.text.trim_from.Goals.{else-both-via-else-both}
 use Rattle.ini_text.proofs.text.trim_from.Goals as goal
 
 pub returns-then-begins_white : goal.returns-then-begins_white

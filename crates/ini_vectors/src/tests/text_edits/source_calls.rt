@@ -52,6 +52,40 @@ fn done(made: Result<(), EditError>) -> Result<bool, EditError> {
     Ok(true)
 }
 
+/// Makes a call that sets values, and answers whether it found something.
+fn set_by(
+    alloc: Global,
+    source: &mut Source<'_>,
+    call: &str,
+    words: Words<'_>,
+) -> Result<bool, EditError> {
+    let write = &WriteOption::default();
+    let policy = write.escape_policy;
+    let (name, key, value) = (words.name, words.key, words.value);
+    match call {
+        "set" => done(source.set(alloc, write, LaterPairs::TakenOut, name, key, value)),
+        "set_first" => done(source.set(alloc, write, LaterPairs::Left, name, key, value)),
+        "set_existing" => {
+            source.set_existing(alloc, policy, LaterPairs::TakenOut, name, key, value)
+        }
+        "set_nth" => source.set_nth(alloc, policy, name, key, words.number, value),
+        _ => all_set(alloc, source, write, words),
+    }
+}
+
+fn all_set(
+    alloc: Global,
+    source: &mut Source<'_>,
+    write: &WriteOption,
+    words: Words<'_>,
+) -> Result<bool, EditError> {
+    let mut values = Vec::new(alloc);
+    for value in words.value.split('/') {
+        values.push(value).map_err(std::alloc::AllocError::from)?;
+    }
+    done(source.set_all(alloc, write, words.name, words.key, values.as_slice()))
+}
+
 /// Makes a call that is about a pair, and answers whether it found something.
 fn edited(
     alloc: Global,
@@ -66,21 +100,11 @@ fn edited(
         key,
         other,
         value,
-        number,
+        ..
     } = words;
     match call {
-        "set" => done(source.set(alloc, write, LaterPairs::TakenOut, name, key, value)),
-        "set_first" => done(source.set(alloc, write, LaterPairs::Left, name, key, value)),
-        "set_existing" => {
-            source.set_existing(alloc, policy, LaterPairs::TakenOut, name, key, value)
-        }
-        "set_nth" => source.set_nth(alloc, policy, name, key, number, value),
-        "set_all" => {
-            let mut values = Vec::new(alloc);
-            for value in value.split('/') {
-                values.push(value).map_err(std::alloc::AllocError::from)?;
-            }
-            done(source.set_all(alloc, write, name, key, values.as_slice()))
+        "set" | "set_first" | "set_existing" | "set_nth" | "set_all" => {
+            set_by(alloc, source, call, words)
         }
         "add" => done(source.add(alloc, write, name, key, value)),
         "insert_after" => source.insert_after(alloc, write, name, key, other, value),

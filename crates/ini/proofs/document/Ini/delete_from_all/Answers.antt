@@ -6,7 +6,8 @@ use Rattle.ini.specs.Texts.{str_name}
 use Rattle.ini.specs.Properties.{removed}
 use Rattle.ini.specs.Documents.{sections_of}
 use Rattle.ini.specs.Edits.{delete_in_all}
-use Rattle.ini.proofs.EverySectionLemmas.{all_edited-sections, edited, edited-all, edited-long, edited-more, edited-zero}
+use Rattle.ini.proofs.EverySectionLemmas.{all_edited-sections, edited, edited-all, edited-long, edited-more}
+use Rattle.ini.proofs.EverySectionLemmas.{edited-zero}
 use Rattle.ini.proofs.document.Ini.delete_from_all.Goals as goal
 
 pub loop-n-init : goal.loop-n-init

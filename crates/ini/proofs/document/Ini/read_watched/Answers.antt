@@ -1,5 +1,6 @@
 use Rattle.std.proofs.Common.{◌≡◌, ◌∙◌, ◌+◌, ◌-◌, ap, arith, length, refl, rules}
-use Rattle.ini.proofs.StreamLemmas.{IsStreamed-ends, IsStreamed-fits, IsStreamed-goes_on, IsStreamed-some, IsStreamed-starts}
+use Rattle.ini.proofs.StreamLemmas.{IsStreamed-ends, IsStreamed-fits, IsStreamed-goes_on, IsStreamed-some}
+use Rattle.ini.proofs.StreamLemmas.{IsStreamed-starts}
 use Rattle.ini.proofs.document.Ini.read_watched.Goals as goal
 
 pub pieces-init : goal.pieces-init

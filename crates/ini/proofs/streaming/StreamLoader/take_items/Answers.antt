@@ -1,7 +1,8 @@
 use Rattle.std.proofs.Common.{◌∙◌, ◌+◌, ap, arith, length, refl, subst, take}
 use Rattle.std.proofs.lemmas.List.{take_rest}
 use Rattle.std.specs.Str.{IsUtf8}
-use Rattle.ini.proofs.StreamLoaderLemmas.{GoesBy-cut, GoesBy-nothing, feeds_fit, front_text, rest_cut, whole_within}
+use Rattle.ini.proofs.StreamLoaderLemmas.{GoesBy-cut, GoesBy-nothing, feeds_fit, front_text, rest_cut}
+use Rattle.ini.proofs.StreamLoaderLemmas.{whole_within}
 use Rattle.ini.proofs.streaming.StreamLoader.take_items.Goals as goal
 
 pub returns-in_default-clause-goes_by : goal.returns-in_default-clause-goes_by

@@ -10,32 +10,32 @@ returns-in-Ok-apply-clause-made c = λ _.
       made = search rules;
       values = search rules;
       leads =
-          changes-made (λ rule changes old new. LeadsTo rule changes (document_in old) (document_in new))
-          {p = c.args.source.now} c.default.ensures
+          changes-made (λ changes old new. LeadsTo c.args.rule changes (document_in old) (document_in new))
+          {p = c.args.source.now}
           (let slice = c.as_slice.ensures.value in let given = c.in-Ok.ensures.changes in cc)
           c.replace_with.ensures.is c.in-Ok-apply.ensures.leads;
     }
 
 pub returns-clause-unplain_value : goal.returns-clause-unplain_value
 returns-clause-unplain_value c = λ is.
-    changes-refused c.to_option-option.ensures.asked {p = c.args.source.now} c.default.ensures
+    changes-refused c.to_option-option.ensures.asked {p = c.args.source.now}
     (let slice = c.as_slice.ensures.value in let given = c.in-Ok.ensures.changes in cc)
     (c.status_of.ensures.value.0 is) c.in-Err-apply.ensures.refused
 
 pub returns-clause-unplain_key : goal.returns-clause-unplain_key
 returns-clause-unplain_key c = λ is.
-    changes-refused c.to_option-option.ensures.asked {p = c.args.source.now} c.default.ensures
+    changes-refused c.to_option-option.ensures.asked {p = c.args.source.now}
     (let slice = c.as_slice.ensures.value in let given = c.in-Ok.ensures.changes in cc)
     (c.status_of.ensures.key.0 is) c.in-Err-apply.ensures.refused
 
 pub returns-clause-unplain_name : goal.returns-clause-unplain_name
 returns-clause-unplain_name c = λ is.
-    changes-refused c.to_option-option.ensures.asked {p = c.args.source.now} c.default.ensures
+    changes-refused c.to_option-option.ensures.asked {p = c.args.source.now}
     (let slice = c.as_slice.ensures.value in let given = c.in-Ok.ensures.changes in cc)
     (c.status_of.ensures.name.0 is) c.in-Err-apply.ensures.refused
 
 pub returns-clause-no_place : goal.returns-clause-no_place
 returns-clause-no_place c = λ is.
-    changes-refused c.to_option-option.ensures.asked {p = c.args.source.now} c.default.ensures
+    changes-refused c.to_option-option.ensures.asked {p = c.args.source.now}
     (let slice = c.as_slice.ensures.value in let given = c.in-Ok.ensures.changes in cc)
     (c.status_of.ensures.no_place.0 is) c.in-Err-apply.ensures.refused

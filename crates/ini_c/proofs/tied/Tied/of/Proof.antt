@@ -15,8 +15,7 @@ use contract.Monad.{Fun, fact}
 use contract.Running.{tables, tables_of}
 use sound.WpLaws.{fm_of, WpFn-mono}
 use types.Kit.{‵, raw, ◌⊛◌, some, later, prop, at_ret, ◌$◌, ◌∵◌, !, qed, move, keep, drop, use1, use2, join}
-use types.Kit.{split, pick, fsplit, fjoin, fpack, regoal}
-use types.Kit.{suffices, done, await}
+use types.Kit.{split, pick, fsplit, fjoin, fpack, regoal, suffices, done, await}
 use types.Part.{whole, sub, agg}
 use types.Run.{stop, fld, no_more, and_then, of_opd, addr, returns, enter, first, blocks, exec, store}
 use types.ByLocal.{alloc_all, pass_all, free_all, look_at, get, get_in, through, sets, lands_as, env}

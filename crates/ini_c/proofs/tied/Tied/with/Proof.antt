@@ -14,8 +14,7 @@ use contract.Monad.{Fun, fact}
 use contract.Running.{tables, tables_of}
 use sound.WpLaws.{fm_of, WpFn-mono}
 use types.Kit.{‵, raw, ◌⊛◌, some, later, prop, at_ret, ◌$◌, ◌∵◌, !, qed, move, keep, drop, use1, use2, join}
-use types.Kit.{split, pick, fsplit, fjoin, regoal, rewrite}
-use types.Kit.{suffices, done, await}
+use types.Kit.{split, pick, fsplit, fjoin, regoal, rewrite, suffices, done, await}
 use types.Part.{whole, sub}
 use types.Run.{stop, fld, no_more, and_then, of_opd, addr, returns, enter, first, blocks, exec}
 use types.ByLocal.{alloc_all, pass_all, free_all, look_at, get, through, sets, env}

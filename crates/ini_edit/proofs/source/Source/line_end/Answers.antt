@@ -1,5 +1,4 @@
-use Rattle.std.proofs.Common.{◌≡◌, ◌∙◌, ◌+◌, None, ap, drop, is_some, subst, sym, take}
-use Rattle.std.proofs.Common.{unwrap_or}
+use Rattle.std.proofs.Common.{◌≡◌, ◌∙◌, ◌+◌, None, ap, drop, is_some, subst, sym, take, unwrap_or}
 use Rattle.std.proofs.lemmas.List.{take_all, take-append-drop}
 use Rattle.ini_edit.specs.Inside.SourceSearches.{IsSearched, first_line_end}
 use Rattle.ini_edit.specs.NewLines.{line_end_of}

@@ -1,7 +1,6 @@
 use Rattle.std.proofs.Common.{◌∙◌, None, Some, refl}
 use Rattle.ini_edit.proofs.SourceReadLemmas.{skips_end, skips_gap, skips_item, skips_rest, skips_start}
-use Rattle.ini_edit.proofs.SourceReadLemmas.{skips_step}
-use Rattle.ini_edit.proofs.SourceReadLemmas.{skips_within}
+use Rattle.ini_edit.proofs.SourceReadLemmas.{skips_step, skips_within}
 use Rattle.ini_edit.proofs.WalkLemmas.{step_none, step_some}
 use Rattle.ini_edit.proofs.source.gap.reach_item.Goals as goal
 

@@ -1,7 +1,6 @@
 use Rattle.std.proofs.Common.{◌≡◌, ◌||◌, ◌&&◌, arith, chars, cond, refl, rules}
 use Rattle.ini_text.specs.Grammar.CharacterKinds.{is_blank}
-use Rattle.ini_edit.proofs.SourceLineWalkLemmas.{blank_starts_none, indentation_start}
-use Rattle.ini_edit.proofs.SourceLineWalkLemmas.{indentation_step}
+use Rattle.ini_edit.proofs.SourceLineWalkLemmas.{blank_starts_none, indentation_start, indentation_step}
 use Rattle.ini_edit.proofs.source.lines.indentation_at_end.Goals as goal
 
 pub characters-init : goal.characters-init

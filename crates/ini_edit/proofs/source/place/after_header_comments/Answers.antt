@@ -6,8 +6,7 @@ use Rattle.ini_text.specs.Grammar.Positions.{is_column_one, last_or}
 use Rattle.ini_text.specs.Parsing.Fronts.{IsRest, front_of}
 use Rattle.ini_edit.specs.SourceLines.{after_comments, after_line, is_empty}
 use Rattle.ini_edit.proofs.GapPlaceLemmas.{same_place}
-use Rattle.ini_edit.proofs.SourceLineLemmas.{after_comments-rest, after_line-rest, last_if_some}
-use Rattle.ini_edit.proofs.SourceLineLemmas.{rest_of_rest}
+use Rattle.ini_edit.proofs.SourceLineLemmas.{after_comments-rest, after_line-rest, last_if_some, rest_of_rest}
 use Rattle.ini_edit.proofs.source.place.after_header_comments.Goals.{then-is_empty-via-then-is_empty}
 use Rattle.ini_edit.proofs.source.place.after_header_comments.Goals.{then-is_empty-via-else-is_empty+then-last_or-ne10}
 use Rattle.ini_edit.proofs.source.place.after_header_comments.Goals as goal

@@ -1,4 +1,5 @@
-use Rattle.std.proofs.Common.{◌≡◌, sym, ◌∙◌, ap, subst, arith, length, length-append, ◌++◌, [], ◌∷◌, List, Option, Some}
+use Rattle.std.proofs.Common.{◌≡◌, sym, ◌∙◌, ap, subst, arith, length, length-append, ◌++◌, [], ◌∷◌, List}
+use Rattle.std.proofs.Common.{Option, Some}
 use Rattle.std.proofs.lemmas.Bool.{OnTrue_at, OnTrue_from}
 use Rattle.ini_multimap.specs.Slots.{pairs_in, pairs_of}
 use Rattle.std.specs.Bool.{OnTrue}

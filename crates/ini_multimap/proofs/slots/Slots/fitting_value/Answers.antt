@@ -2,7 +2,8 @@ use Rattle.std.proofs.Common.{◌<◌, sym, ◌∙◌, ap, arith, length}
 use Rattle.ini_multimap.specs.Inside.Fits.{fit, fits_at, value_in}
 use Rattle.ini_multimap.proofs.SlotLemmas.{fit_other, fit_there, fits_read, lent_value, value_read}
 use Rattle.ini_multimap.proofs.slots.Slots.fitting_value.Goals as goal
-use Rattle.ini_multimap.proofs.slots.Slots.fitting_value.Goals.{in_default-via-in-Some+else-is, in_default-via-in_default}
+use Rattle.ini_multimap.proofs.slots.Slots.fitting_value.Goals.{in_default-via-in-Some+else-is}
+use Rattle.ini_multimap.proofs.slots.Slots.fitting_value.Goals.{in_default-via-in_default}
 
 pub returns-in-Some-clause-fits : goal.returns-in-Some-clause-fits
 returns-in-Some-clause-fits g c =

@@ -1,6 +1,7 @@
 use Rattle.std.proofs.Common.{sym, ◌∙◌, ap}
 use Rattle.ini_multimap.proofs.SlotLemmas.{code_within}
-use Rattle.ini_multimap.proofs.WalkLemmas.{any_before, back_misses, back_starts, before_hit, candidate, is_more}
+use Rattle.ini_multimap.proofs.WalkLemmas.{any_before, back_misses, back_starts, before_hit, candidate}
+use Rattle.ini_multimap.proofs.WalkLemmas.{is_more}
 use Rattle.ini_multimap.proofs.slots.Slots.has_key.Goals as goal
 
 pub candidate_before-before-requires : goal.candidate_before-before-requires

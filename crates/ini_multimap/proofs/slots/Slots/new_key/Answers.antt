@@ -4,7 +4,8 @@ use Rattle.ini_multimap.specs.Slots.{pairs_in}
 use Rattle.ini_multimap.specs.Inside.Fits.{value_in}
 use Rattle.ini_multimap.proofs.PairedLemmas.{any_turned, fresh_pair, no_pair}
 use Rattle.ini_multimap.proofs.slots.Slots.new_key.Goals as goal
-use Rattle.ini_multimap.proofs.slots.Slots.new_key.Goals.{in_default-via-in-Some+else-not-has_key, in_default-via-in_default}
+use Rattle.ini_multimap.proofs.slots.Slots.new_key.Goals.{in_default-via-in-Some+else-not-has_key}
+use Rattle.ini_multimap.proofs.slots.Slots.new_key.Goals.{in_default-via-in_default}
 
 pub returns-in-Some : goal.returns-in-Some
 returns-in-Some g c =

@@ -4,7 +4,8 @@ use Rattle.ini_multimap.specs.Inside.Fits.{pair_key, value_in}
 use Rattle.ini_multimap.proofs.SlotLemmas.{value_read}
 use Rattle.ini_multimap.proofs.PairedLemmas.{paired_value, pair_is, no_key, no_value_there}
 use Rattle.ini_multimap.proofs.slots.Slots.paired_key.Goals as goal
-use Rattle.ini_multimap.proofs.slots.Slots.paired_key.Goals.{in_default-via-in-Some+else-is_some, then-self, else-self, in_default-via-in_default}
+use Rattle.ini_multimap.proofs.slots.Slots.paired_key.Goals.{in_default-via-in-Some+else-is_some, then-self}
+use Rattle.ini_multimap.proofs.slots.Slots.paired_key.Goals.{else-self, in_default-via-in_default}
 
 pub returns-in-Some : goal.returns-in-Some
 returns-in-Some g c =

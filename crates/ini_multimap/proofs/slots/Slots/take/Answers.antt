@@ -4,7 +4,8 @@ use Rattle.std.proofs.lemmas.Bool.{OnTrue_at, OnTrue_from}
 use Rattle.ini_multimap.specs.Slots.{Columns}
 use Rattle.ini_multimap.specs.Inside.Fits.{ArePaired, HasLeadingHoles, code_at, value_in}
 use Rattle.ini_multimap.specs.Inside.Chains.{IsIndexed}
-use Rattle.ini_multimap.proofs.SlotLemmas.{code_within, holes_le, holes_set, map_some, some_within, value_read}
+use Rattle.ini_multimap.proofs.SlotLemmas.{code_within, holes_le, holes_set, map_some, some_within}
+use Rattle.ini_multimap.proofs.SlotLemmas.{value_read}
 use Rattle.ini_multimap.proofs.InjectiveLemmas.{injective_without}
 use Rattle.ini_multimap.proofs.LeadingLemmas.{leading_without}
 use Rattle.ini_multimap.proofs.PairedLemmas.{paired_without}

@@ -3,7 +3,8 @@ use Rattle.std.specs.List.{prefix_len}
 use Rattle.ini_text.specs.Inside.Scans.{is_raw}
 use Rattle.ini_text.specs.Inside.Endpoints.{ends_of}
 use Rattle.ini_text.proofs.ReaderLemmas.StringReaderLemmas.{run_without_notes}
-use Rattle.ini_text.proofs.StringLemmas.NoteRunLemmas.{CutRun, RawRun, cut_run, note_boundary, note_within, raw_run}
+use Rattle.ini_text.proofs.StringLemmas.NoteRunLemmas.{CutRun, RawRun, cut_run, note_boundary, note_within}
+use Rattle.ini_text.proofs.StringLemmas.NoteRunLemmas.{raw_run}
 use Rattle.ini_text.proofs.StringLemmas.RunLemmas.{boundary, raw_wide}
 use Rattle.ini_text.proofs.parser.endpoints.split_noted_run.Goals as goal
 use Rattle.ini_text.proofs.parser.endpoints.split_noted_run.Goals.{After-split_at, After-split_at-2}

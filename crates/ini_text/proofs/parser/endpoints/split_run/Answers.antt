@@ -5,7 +5,8 @@ use Rattle.ini_text.specs.Inside.Scans.{is_raw}
 use Rattle.ini_text.specs.Inside.Endpoints.{ends_of}
 use Rattle.ini_text.specs.declared.option.ParseOption.{ParseOption}
 use Rattle.ini_text.specs.declared.parser.endpoints.Endpoints.{Endpoints}
-use Rattle.ini_text.specs.declared.parser.endpoints.Endpoints.TheVariants.{Name, BracketedName, Key, DoubleQuotes, SingleQuotes, Plain}
+use Rattle.ini_text.specs.declared.parser.endpoints.Endpoints.TheVariants.{Name, BracketedName, Key}
+use Rattle.ini_text.specs.declared.parser.endpoints.Endpoints.TheVariants.{DoubleQuotes, SingleQuotes, Plain}
 use Rattle.ini_text.proofs.ReaderLemmas.StringReaderLemmas.{run_without_notes}
 use Rattle.ini_text.proofs.StringLemmas.NoteRunLemmas.{RawRun, raw_run}
 use Rattle.ini_text.proofs.StringLemmas.RunLemmas.{boundary, raw_wide}

@@ -1,6 +1,7 @@
 use Rattle.std.proofs.Common.{chars, sym, ap, ◌∙◌, rules}
 use Rattle.ini_text.specs.Inside.ElementReader.{name_in}
-use Rattle.ini_text.proofs.GrammarLemmas.BracketedNameLemmas.{name_before_blank, name_before_bracket, no_name_before}
+use Rattle.ini_text.proofs.GrammarLemmas.BracketedNameLemmas.{name_before_blank, name_before_bracket}
+use Rattle.ini_text.proofs.GrammarLemmas.BracketedNameLemmas.{no_name_before}
 use Rattle.ini_text.proofs.parser.header.before_bracket.Goals as goal
 
 pub returns-then-c-eq93 : goal.returns-then-c-eq93

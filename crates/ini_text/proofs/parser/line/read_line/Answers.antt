@@ -1,4 +1,5 @@
-use Rattle.std.proofs.Common.{◌≡◌, ◌++◌, ◌&&◌, not, ◌∙◌, refl, ap, sym, rules, string_bytes, IsCharBoundary, subst, chars, take, drop, length}
+use Rattle.std.proofs.Common.{◌≡◌, ◌++◌, ◌&&◌, not, ◌∙◌, refl, ap, sym, rules, string_bytes, IsCharBoundary}
+use Rattle.std.proofs.Common.{subst, chars, take, drop, length}
 use Rattle.std.proofs.Math.Bool.{or-true}
 use Rattle.std.proofs.lemmas.Str.{IsUtf8-string_bytes}
 use Rattle.ini_text.specs.Inside.LineReader.{line_text}
@@ -6,7 +7,8 @@ use Rattle.ini_text.specs.Inside.Scans.{trimmed_at}
 use Rattle.ini_text.specs.Parsing.Items.{string_text}
 use Rattle.ini_text.proofs.StringLemmas.PushLemmas.{grown}
 use Rattle.ini_text.proofs.ReaderLemmas.ReaderLemmas.{read_after, then_stopped, passed}
-use Rattle.ini_text.proofs.ReaderLemmas.LineReaderLemmas.{one_part, part_stops, part_shortens, line_read, line_stops}
+use Rattle.ini_text.proofs.ReaderLemmas.LineReaderLemmas.{one_part, part_stops, part_shortens, line_read}
+use Rattle.ini_text.proofs.ReaderLemmas.LineReaderLemmas.{line_stops}
 use Rattle.ini_text.proofs.parser.line.read_line.Goals.{then-is_first, else-is_first}
 use Rattle.ini_text.proofs.parser.line.read_line.Goals as goal
 

@@ -1,6 +1,7 @@
 use Rattle.std.proofs.Common.{chars, ap, ◌∙◌, refl, sym, subst}
 use Rattle.ini_text.specs.Grammar.CharacterKinds.{is_blank}
-use Rattle.ini_text.specs.Inside.ElementReader.{after_blanks, given, indented_pair_of_key, kept_blanks, key_string, trimmed_key}
+use Rattle.ini_text.specs.Inside.ElementReader.{after_blanks, given, indented_pair_of_key, kept_blanks}
+use Rattle.ini_text.specs.Inside.ElementReader.{key_string, trimmed_key}
 use Rattle.ini_text.specs.Inside.Reading.{Gives, prepend}
 use Rattle.ini_text.specs.Inside.Scans.{run_of}
 use Rattle.ini_text.proofs.PlaceLemmas.PairLemmas.{header_rests, unaltered, value_rests}

@@ -1,4 +1,5 @@
-use Rattle.std.proofs.Common.{◌≢◌, [], chars, drop, length, ap, sym, ◌∙◌, eqb-true, eq-eqb, refl, subst, true≢false}
+use Rattle.std.proofs.Common.{◌≢◌, [], chars, drop, length, ap, sym, ◌∙◌, eqb-true, eq-eqb, refl, subst}
+use Rattle.std.proofs.Common.{true≢false}
 use Rattle.std.specs.Cow.{cow_str_bytes}
 use Rattle.std.specs.Str.{IsUtf8}
 use Rattle.ini_text.specs.Grammar.CharacterKinds.{is_separator, BeginsWith, BeginsWithNo}

@@ -4,7 +4,8 @@ use Rattle.ini_text.specs.Grammar.Elements.{Element}
 use Rattle.ini_text.specs.Inside.ElementReader.{given}
 use Rattle.ini_text.specs.Parsing.Fronts.{front_of}
 use Rattle.ini_text.specs.Parsing.Items.{borrowed_item_of}
-use Rattle.ini_text.proofs.PlaceLemmas.PairLemmas.{front_all, refuses_element, source_within, begins_pair, stands}
+use Rattle.ini_text.proofs.PlaceLemmas.PairLemmas.{front_all, refuses_element, source_within, begins_pair}
+use Rattle.ini_text.proofs.PlaceLemmas.PairLemmas.{stands}
 use Rattle.ini_text.proofs.parser.placed.find_element.Goals.{in-None, in-Some-Header, in-Some-Pair}
 use Rattle.ini_text.proofs.parser.placed.find_element.Goals as goal
 

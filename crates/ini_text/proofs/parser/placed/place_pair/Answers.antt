@@ -2,8 +2,10 @@ use Rattle.std.proofs.Common.{◌≡◌, refl, sym, ◌∙◌, chars, subst, Non
 use Rattle.std.proofs.lemmas.Str.{chars-nil}
 use Rattle.ini_text.specs.Grammar.CharacterKinds.{is_separator, BeginsWithNo}
 use Rattle.ini_text.specs.Grammar.Places.{ArePlaced, pair_source}
-use Rattle.ini_text.proofs.PlaceLemmas.PairLemmas.{pair_read, after_key_within, value_seen, lead_within, made_of, placed, lone_placed}
-use Rattle.ini_text.proofs.parser.placed.place_pair.Goals.{in_default-via-in-Some+else-is_separator, in_default-via-in_default}
+use Rattle.ini_text.proofs.PlaceLemmas.PairLemmas.{pair_read, after_key_within, value_seen, lead_within}
+use Rattle.ini_text.proofs.PlaceLemmas.PairLemmas.{made_of, placed, lone_placed}
+use Rattle.ini_text.proofs.parser.placed.place_pair.Goals.{in_default-via-in-Some+else-is_separator}
+use Rattle.ini_text.proofs.parser.placed.place_pair.Goals.{in_default-via-in_default}
 use Rattle.ini_text.proofs.parser.placed.place_pair.Goals as goal
 
 pub front_before-key-requires : goal.front_before-key-requires

@@ -1,5 +1,6 @@
 use Rattle.std.proofs.Common.{chars, ◌∙◌, sym, rules}
-use Rattle.ini_text.proofs.PlaceLemmas.SpaceAfterLemmas.{space_none, space_more, space_escaped, space_bare, space_all, shorter_before}
+use Rattle.ini_text.proofs.PlaceLemmas.SpaceAfterLemmas.{space_none, space_more, space_escaped, space_bare}
+use Rattle.ini_text.proofs.PlaceLemmas.SpaceAfterLemmas.{space_all, shorter_before}
 use Rattle.ini_text.proofs.parser.placed.without_space_after.Goals as goal
 
 pub white-init : goal.white-init

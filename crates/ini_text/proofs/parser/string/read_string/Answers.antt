@@ -1,4 +1,5 @@
-use Rattle.std.proofs.Common.{◌≡◌, ◌==◌, ◌&&◌, ◌∙◌, ◌++◌, false, true, refl, sym, ap, append-nil, ne_eqb, rules, ℕ, length, length-append, arith, ◌<◌, chars}
+use Rattle.std.proofs.Common.{◌≡◌, ◌==◌, ◌&&◌, ◌∙◌, ◌++◌, false, true, refl, sym, ap, append-nil, ne_eqb}
+use Rattle.std.proofs.Common.{rules, ℕ, length, length-append, arith, ◌<◌, chars}
 use Rattle.std.proofs.Math.Bool.{and-false}
 use Rattle.ini_text.specs.Options.Backslashes.{reads_escapes}
 use Rattle.ini_text.specs.Options.ReadOptions.{backslash_of}
@@ -8,10 +9,17 @@ use Rattle.ini_text.specs.Inside.Reading.{prepend}
 use Rattle.ini_text.specs.Inside.Scans.{EndsRun, is_run}
 use Rattle.ini_text.specs.Inside.StringReader.{string, value_after_backslash}
 use Rattle.ini_text.specs.Parsing.Items.{string_text}
-use Rattle.ini_text.proofs.ReaderLemmas.ReaderLemmas.{and_more, and_found, and_stopped, then_found, then_stopped, passed}
-use Rattle.ini_text.proofs.ReaderLemmas.StringReaderLemmas.{run_to_backslash, run_to_end, string_at_end, string_ends, string_at_backslash, string_raw_backslash, string_pair, string_coded, coded_shortens, reads-escapes, no_backslash_ends}
+use Rattle.ini_text.proofs.ReaderLemmas.ReaderLemmas.{and_more, and_found, and_stopped, then_found}
+use Rattle.ini_text.proofs.ReaderLemmas.ReaderLemmas.{then_stopped, passed}
+use Rattle.ini_text.proofs.ReaderLemmas.StringReaderLemmas.{run_to_backslash, run_to_end, string_at_end}
+use Rattle.ini_text.proofs.ReaderLemmas.StringReaderLemmas.{string_ends, string_at_backslash}
+use Rattle.ini_text.proofs.ReaderLemmas.StringReaderLemmas.{string_raw_backslash, string_pair, string_coded}
+use Rattle.ini_text.proofs.ReaderLemmas.StringReaderLemmas.{coded_shortens, reads-escapes, no_backslash_ends}
 use Rattle.ini_text.proofs.parser.string.read_string.Goals as goal
-use Rattle.ini_text.proofs.parser.string.read_string.Goals.{then-read+then-d-eq120+in_ok-rest, else-read+in_ok-push_escaped, else-read-via-then-read+else-d-eq120, else-read-via-else-read}
+use Rattle.ini_text.proofs.parser.string.read_string.Goals.{then-read+then-d-eq120+in_ok-rest}
+use Rattle.ini_text.proofs.parser.string.read_string.Goals.{else-read+in_ok-push_escaped}
+use Rattle.ini_text.proofs.parser.string.read_string.Goals.{else-read-via-then-read+else-d-eq120}
+use Rattle.ini_text.proofs.parser.string.read_string.Goals.{else-read-via-else-read}
 
 pub pieces-init : goal.pieces-init
 pieces-init c = record { text = search rules; read = refl }

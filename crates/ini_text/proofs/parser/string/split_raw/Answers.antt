@@ -1,4 +1,6 @@
-use Rattle.std.proofs.Common.{◌≡◌, ◌≢◌, ◌∙◌, ◌++◌, ℕ, List, [], ◌∷◌, true, true≢false, ap, append-nil, arith, chars, encode_utf8, encode_utf8_all, eq-eqb, eqb-true, get_or, length, refl, subst, sym, IsUtf8}
+use Rattle.std.proofs.Common.{◌≡◌, ◌≢◌, ◌∙◌, ◌++◌, ℕ, List, [], ◌∷◌, true, true≢false, ap, append-nil, arith}
+use Rattle.std.proofs.Common.{chars, encode_utf8, encode_utf8_all, eq-eqb, eqb-true, get_or, length, refl}
+use Rattle.std.proofs.Common.{subst, sym, IsUtf8}
 use Rattle.std.proofs.lemmas.Str.{encode_ascii, encodes-chars}
 use Rattle.ini_text.specs.Inside.Endpoints.{ends_of}
 use Rattle.ini_text.specs.Inside.Scans.{EndsRun, is_run}

@@ -1,4 +1,5 @@
-use Rattle.std.proofs.Common.{◌≡◌, ◌∙◌, ◌++◌, ◌∷◌, [], ap, append_assoc, chars, drop, not, rules, string_bytes, subst, sym}
+use Rattle.std.proofs.Common.{◌≡◌, ◌∙◌, ◌++◌, ◌∷◌, [], ap, append_assoc, chars, drop, not, rules}
+use Rattle.std.proofs.Common.{string_bytes, subst, sym}
 use Rattle.std.proofs.lemmas.Bool.{not-true, not-false}
 use Rattle.std.proofs.lemmas.Str.{IsUtf8-string_bytes}
 use Rattle.std.specs.List.{list_all}
@@ -7,7 +8,10 @@ use Rattle.ini_text.specs.Grammar.CharacterKinds.{is_line_feed, line_feed}
 use Rattle.ini_text.specs.Grammar.WhiteSpace.{without_outer_line_feeds}
 use Rattle.ini_text.specs.Inside.PlaceReader.{HasTail, TailSoFar}
 use Rattle.ini_text.specs.Parsing.Items.{string_text}
-use Rattle.ini_text.proofs.PlaceLemmas.TailLemmas.{tail_comment, tail_comment-last, tail_comment-shorter, tail_lf, tail_cr_lf, tail_stops, tail_line_stops, tail_other, tail_at_end, last_line-empty, last_line-own, line_shorter, line-empty, line-own}
+use Rattle.ini_text.proofs.PlaceLemmas.TailLemmas.{tail_comment, tail_comment-last, tail_comment-shorter}
+use Rattle.ini_text.proofs.PlaceLemmas.TailLemmas.{tail_lf, tail_cr_lf, tail_stops, tail_line_stops}
+use Rattle.ini_text.proofs.PlaceLemmas.TailLemmas.{tail_other, tail_at_end, last_line-empty, last_line-own}
+use Rattle.ini_text.proofs.PlaceLemmas.TailLemmas.{line_shorter, line-empty, line-own}
 use Rattle.ini_text.proofs.ReaderLemmas.ReaderLemmas.{passed, read_after, stopped_after}
 use Rattle.ini_text.proofs.ReaderLemmas.LineTurnLemmas.{empty_cr_stops}
 use Rattle.ini_text.proofs.StringLemmas.PushLemmas.{grown}

@@ -1,6 +1,7 @@
 use Rattle.std.proofs.Common.{ap, chars, subst, sym}
 use Rattle.ini_text.specs.Inside.PlaceReader.{HasTail, TailSoFar}
-use Rattle.ini_text.proofs.PlaceLemmas.TailLemmas.{at_rests, line_stopped, line_to_end, tail_begins, tail_ends}
+use Rattle.ini_text.proofs.PlaceLemmas.TailLemmas.{at_rests, line_stopped, line_to_end, tail_begins}
+use Rattle.ini_text.proofs.PlaceLemmas.TailLemmas.{tail_ends}
 use Rattle.ini_text.proofs.ReaderLemmas.ReaderLemmas.{passed}
 use Rattle.ini_text.proofs.ReaderLemmas.LineTurnLemmas.{value_stops}
 use Rattle.ini_text.proofs.parser.value.read_multiline.Goals as goal

@@ -1,5 +1,6 @@
 use Rattle.std.proofs.Common.{chars, ◌∙◌, rules}
-use Rattle.ini_text.proofs.StringLemmas.LineFeedLemmas.{feeds_skipped, one_feed, feeds_done, feeds_none, shorter_before}
+use Rattle.ini_text.proofs.StringLemmas.LineFeedLemmas.{feeds_skipped, one_feed, feeds_done, feeds_none}
+use Rattle.ini_text.proofs.StringLemmas.LineFeedLemmas.{shorter_before}
 use Rattle.ini_text.proofs.parser.value.without_line_feeds.Goals as goal
 
 pub ends-init : goal.ends-init

@@ -1,4 +1,5 @@
-use Rattle.std.proofs.Common.{◌++◌, ap, sym, ◌∙◌, [], length, append-nil, eqb-true, eq-eqb, take_all, refl, arith}
+use Rattle.std.proofs.Common.{◌++◌, ap, sym, ◌∙◌, [], length, append-nil, eqb-true, eq-eqb, take_all, refl}
+use Rattle.std.proofs.Common.{arith}
 use Rattle.std.specs.List.{position_or_len}
 use Rattle.std.proofs.lemmas.List.Sums.{position_or_len_is}
 use Rattle.std.proofs.Math.Seq.{drop-length}

@@ -1,5 +1,4 @@
-use Rattle.std.proofs.Common.{◌≡◌, ◌+◌, ◌++◌, ◌∙◌, ◌&&◌, ap, chars, length, map, nat_eq, rules}
-use Rattle.std.proofs.Common.{subst, sym}
+use Rattle.std.proofs.Common.{◌≡◌, ◌+◌, ◌++◌, ◌∙◌, ◌&&◌, ap, chars, length, map, nat_eq, rules, subst, sym}
 use Rattle.std.proofs.lemmas.List.{map-append}
 use Rattle.ini_text.specs.Parsing.Fronts.{IsRest, front_of}
 use Rattle.ini_edit.specs.Inside.Sortings.{pair_unit_of}

@@ -1,8 +1,7 @@
 use Rattle.std.proofs.Common.{◌≡◌, ◌∙◌, ◌+◌, ap, chars, drop, subst, sym}
 use Rattle.ini.specs.Texts.{is_text}
 use Rattle.ini_edit.specs.SourceEditsDelete.{begin_with_blank}
-use Rattle.ini_edit.proofs.WithoutLemmas.{WithoutSoFar, without_end, without_kept, without_other}
-use Rattle.ini_edit.proofs.WithoutLemmas.{without_out}
+use Rattle.ini_edit.proofs.WithoutLemmas.{WithoutSoFar, without_end, without_kept, without_other, without_out}
 use Rattle.ini_edit.proofs.WithoutLemmas.{without_start}
 use Rattle.ini_edit.proofs.source.section.SourceSection.without.Goals.{else-is_same_text}
 use Rattle.ini_edit.proofs.source.section.SourceSection.without.Goals.{then-is_same_text+else-left-eq0}

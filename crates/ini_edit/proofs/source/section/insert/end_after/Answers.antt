@@ -8,7 +8,6 @@ use Rattle.ini_edit.proofs.CharsLemmas.{chars-return}
 use Rattle.ini_edit.specs.SourceEditsAdd.{notes_behind_return}
 use Rattle.ini_edit.specs.SourceEditsDelete.{line_end_after}
 use Rattle.ini_edit.proofs.source.section.insert.end_after.Goals.{else-may_have_note-via-else-may_have_note}
-use Rattle.ini_edit.proofs.source.section.insert.end_after.Goals.{}
 use Rattle.ini_edit.proofs.source.section.insert.end_after.Goals.{else-may_have_note-via-then-may_have_note+else-last_or-eq13}
 use Rattle.ini_edit.proofs.source.section.insert.end_after.Goals as goal
 

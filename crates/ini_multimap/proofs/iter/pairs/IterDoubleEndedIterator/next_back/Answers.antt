@@ -3,7 +3,8 @@ use Rattle.std.proofs.lemmas.List.{length-append}
 use Rattle.ini_multimap.specs.Slots.{with_cell}
 use Rattle.ini_multimap.proofs.EndLemmas.{rest_long, last_cell, last_none}
 use Rattle.ini_multimap.proofs.iter.pairs.IterDoubleEndedIterator.next_back.Goals as goal
-use Rattle.ini_multimap.proofs.iter.pairs.IterDoubleEndedIterator.next_back.Goals.{in_default-via-in-None-1, in_default-via-in-Some-key+in-None-1}
+use Rattle.ini_multimap.proofs.iter.pairs.IterDoubleEndedIterator.next_back.Goals.{in_default-via-in-None-1}
+use Rattle.ini_multimap.proofs.iter.pairs.IterDoubleEndedIterator.next_back.Goals.{in_default-via-in-Some-key+in-None-1}
 
 pub returns-in-Some-clause-steps : goal.returns-in-Some-clause-steps
 returns-in-Some-clause-steps g c = sym c.loop-key.invariant.left

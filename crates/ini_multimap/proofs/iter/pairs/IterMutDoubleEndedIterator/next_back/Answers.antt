@@ -5,7 +5,8 @@ use Rattle.ini_multimap.specs.Iter.{iter_mut_rest}
 use Rattle.ini_multimap.specs.Slots.{pairs_in, with_cell}
 use Rattle.ini_multimap.proofs.EndLemmas.{rest_long, last_cell, last_none}
 use Rattle.ini_multimap.proofs.iter.pairs.IterMutDoubleEndedIterator.next_back.Goals as goal
-use Rattle.ini_multimap.proofs.iter.pairs.IterMutDoubleEndedIterator.next_back.Goals.{in_default-via-in-None-1, in_default-via-in-Some-key+in-None-1}
+use Rattle.ini_multimap.proofs.iter.pairs.IterMutDoubleEndedIterator.next_back.Goals.{in_default-via-in-None-1}
+use Rattle.ini_multimap.proofs.iter.pairs.IterMutDoubleEndedIterator.next_back.Goals.{in_default-via-in-Some-key+in-None-1}
 
 pub invariant_of-self-in-None-key : goal.invariant_of-self-in-None-key
 invariant_of-self-in-None-key g c =

@@ -1,7 +1,9 @@
-use Rattle.std.proofs.Common.{◌≡◌, ◌++◌, ◌∷◌, [], ℕ, Option, List, Some, sym, ◌∙◌, ap, subst, refl, arith, length, length-append, nat_eq}
+use Rattle.std.proofs.Common.{◌≡◌, ◌++◌, ◌∷◌, [], ℕ, Option, List, Some, sym, ◌∙◌, ap, subst, refl, arith}
+use Rattle.std.proofs.Common.{length, length-append, nat_eq}
 use Rattle.std.specs.HashMap.{get}
 use Rattle.std.proofs.lemmas.Bool.{OnTrue_at, OnTrue_from}
-use Rattle.ini_multimap.specs.Inside.Chains.{IsPrev, IsLinked, IsNextSet, IsPutLast, last_of, next_at, prev_at}
+use Rattle.ini_multimap.specs.Inside.Chains.{IsPrev, IsLinked, IsNextSet, IsPutLast, last_of, next_at}
+use Rattle.ini_multimap.specs.Inside.Chains.{prev_at}
 use Rattle.ini_multimap.specs.Inside.Fits.{code_at}
 use Rattle.ini_multimap.specs.declared.slots.chains.Link.{Link}
 use Rattle.ini_multimap.proofs.InjectiveLemmas.{injective_push}

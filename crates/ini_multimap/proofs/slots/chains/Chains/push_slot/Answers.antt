@@ -1,4 +1,5 @@
-use Rattle.std.proofs.Common.{◌++◌, ◌∷◌, [], List, Option, None, sym, ◌∙◌, ap, subst, arith, length, length-append, nat_eq}
+use Rattle.std.proofs.Common.{◌++◌, ◌∷◌, [], List, Option, None, sym, ◌∙◌, ap, subst, arith, length}
+use Rattle.std.proofs.Common.{length-append, nat_eq}
 use Rattle.std.specs.HashMap.{get}
 use Rattle.ini_multimap.specs.Inside.Fits.{IsInjective, code_at}
 use Rattle.ini_multimap.specs.Inside.Chains.{AreChained, IsLinked, next_at, prev_at}

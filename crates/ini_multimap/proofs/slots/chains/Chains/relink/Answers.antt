@@ -1,4 +1,5 @@
-use Rattle.std.proofs.Common.{◌≡◌, ◌≢◌, ◌<◌, ℕ, suc, Option, Some, None, IfSome, add-one, sym, ◌∙◌, subst, refl, arith, length, nat_eq, unwrap_or}
+use Rattle.std.proofs.Common.{◌≡◌, ◌≢◌, ◌<◌, ℕ, suc, Option, Some, None, IfSome, add-one, sym, ◌∙◌, subst}
+use Rattle.std.proofs.Common.{refl, arith, length, nat_eq, unwrap_or}
 use Rattle.std.specs.HashMap.{get}
 use Rattle.std.proofs.Math.ListN.{set, length-set}
 use Rattle.ini_multimap.specs.Inside.Fits.{code_at, value_in}
@@ -6,7 +7,8 @@ use Rattle.ini_multimap.specs.Inside.Chains.{IsLinked, first_of, last_of, named,
 use Rattle.ini_multimap.specs.Inside.Moves.{IsStale, upto, known}
 use Rattle.ini_multimap.specs.declared.slots.chains.Link.{Link}
 use Rattle.ini_multimap.proofs.SlotLemmas.{value_within, not_some}
-use Rattle.ini_multimap.proofs.LinkLemmas.{prev_within, last_within, ends_here, ends_apart, link_here, link_other}
+use Rattle.ini_multimap.proofs.LinkLemmas.{prev_within, last_within, ends_here, ends_apart, link_here}
+use Rattle.ini_multimap.proofs.LinkLemmas.{link_other}
 use Rattle.ini_multimap.proofs.MoveLemmas.{code_key}
 use Rattle.ini_multimap.proofs.RelinkLemmas.{relinked_all, relinked_hole, relinked_key, stale_next}
 use Rattle.ini_multimap.proofs.slots.chains.Chains.relink.Goals as goal

@@ -3,7 +3,8 @@ use Rattle.std.specs.HashMap.{get}
 use Rattle.std.proofs.Math.ListN.{length-set}
 use Rattle.ini_multimap.specs.Inside.Fits.{code_at}
 use Rattle.ini_multimap.specs.Inside.Chains.{next_at, prev_at}
-use Rattle.ini_multimap.proofs.LinkLemmas.{prev_within, next_within, ends_there, prev_read, next_read, linked_without}
+use Rattle.ini_multimap.proofs.LinkLemmas.{prev_within, next_within, ends_there, prev_read, next_read}
+use Rattle.ini_multimap.proofs.LinkLemmas.{linked_without}
 use Rattle.ini_multimap.proofs.slots.chains.Chains.unlink.Goals as goal
 
 pub link_after-requires-clause-within : goal.link_after-requires-clause-within

@@ -1,4 +1,5 @@
-use Rattle.std.proofs.Common.{◌∷◌, ◌++◌, ◌∙◌, ◌+◌, [], ap, arith, chars, length, not, rules, subst, sym, take, IsUtf8}
+use Rattle.std.proofs.Common.{◌∷◌, ◌++◌, ◌∙◌, ◌+◌, [], ap, arith, chars, length, not, rules, subst, sym, take}
+use Rattle.std.proofs.Common.{IsUtf8}
 use Rattle.std.specs.Char.{IsScalar}
 use Rattle.std.proofs.lemmas.List.{take-take}
 use Rattle.std.proofs.lemmas.Str.{IsUtf8-nil}

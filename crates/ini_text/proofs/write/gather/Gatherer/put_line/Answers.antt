@@ -1,5 +1,6 @@
 use Rattle.std.proofs.lemmas.Result.{err_from_is_err_and}
-use Rattle.ini_text.proofs.WriteLemmas.SendLemmas.{Sends-cut, Sends-line, Sends-nil, Sends-then, SendsBytes-unsent}
+use Rattle.ini_text.proofs.WriteLemmas.SendLemmas.{Sends-cut, Sends-line, Sends-nil, Sends-then}
+use Rattle.ini_text.proofs.WriteLemmas.SendLemmas.{SendsBytes-unsent}
 use Rattle.ini_text.proofs.write.gather.Gatherer.put_line.Goals as goal
 
 pub returns-then-push_line : goal.returns-then-push_line

@@ -5,7 +5,8 @@ use Rattle.ini_text.specs.Escaping.EscapedTexts.{escape}
 use Rattle.ini_text.specs.Inside.Verbatim.{marked_escaped}
 use Rattle.ini_text.specs.Device.Unsent.{unsent}
 use Rattle.ini_text.proofs.WriteLemmas.MarkedByteLemmas.{marked_escaped-at, marked_escaped-split}
-use Rattle.ini_text.proofs.WriteLemmas.SendLemmas.{Leaving, Leaving-ends, Leaving-goes_on, Leaving-last, SendsBytes-cut}
+use Rattle.ini_text.proofs.WriteLemmas.SendLemmas.{Leaving, Leaving-ends, Leaving-goes_on, Leaving-last}
+use Rattle.ini_text.proofs.WriteLemmas.SendLemmas.{SendsBytes-cut}
 use Rattle.ini_text.proofs.write.gather.Gatherer.put_pieces.Given as given
 use Rattle.ini_text.proofs.write.gather.Gatherer.put_pieces.Goals as goal
 use Rattle.ini_text.proofs.write.gather.Gatherer.put_pieces.Goals.{In_ok-put_bytes}

@@ -1,4 +1,5 @@
-use Rattle.std.proofs.Common.{◌≡◌, ℕ, List, [], ◌++◌, ◌∙◌, ap, refl, append-nil, append_assoc, encode_utf8_all, rules, subst, sym}
+use Rattle.std.proofs.Common.{◌≡◌, ℕ, List, [], ◌++◌, ◌∙◌, ap, refl, append-nil, append_assoc}
+use Rattle.std.proofs.Common.{encode_utf8_all, rules, subst, sym}
 use Rattle.std.proofs.lemmas.Result.{err_from_is_err_and}
 use Rattle.ini_text.specs.Escaping.EscapedTexts.{escape, escaped, escaped_bytes}
 use Rattle.ini_text.specs.Buffered.{buffered}

@@ -4,7 +4,8 @@ use Rattle.std.proofs.lemmas.Option.{MatchOption-at_some}
 use Rattle.ini_text.specs.Escaping.EscapedTexts.{escape}
 use Rattle.ini_text.specs.Buffered.{buffered}
 use Rattle.ini_text.specs.Inside.Verbatim.{marked_escaped}
-use Rattle.ini_text.proofs.WriteLemmas.MarkedByteLemmas.{letters-past, marked_escaped-marked, marked_escaped-none, pushed_more}
+use Rattle.ini_text.proofs.WriteLemmas.MarkedByteLemmas.{letters-past, marked_escaped-marked}
+use Rattle.ini_text.proofs.WriteLemmas.MarkedByteLemmas.{marked_escaped-none, pushed_more}
 use Rattle.ini_text.proofs.write.buffer.marked.Buffer+BUFFER_SIZE.push_few.Goals as goal
 
 pub returns-then-has_no_mark-clause-pushed : goal.returns-then-has_no_mark-clause-pushed

@@ -4,10 +4,12 @@ use Rattle.std.proofs.lemmas.Option.{MatchOption-at_some}
 use lib.Count.{count_trailing_zeros}
 use Rattle.ini_text.proofs.StringLemmas.LaneLemmas.{Tells-none, Tells-past, stops_at}
 use Rattle.ini_text.proofs.WriteLemmas.BufferLemmas.{placed_none, placed_run}
-use Rattle.ini_text.proofs.WriteLemmas.MarkedByteLemmas.{letters-past, marked_escaped-after, marked_escaped-run, pushed_more, stopped_at_mark}
+use Rattle.ini_text.proofs.WriteLemmas.MarkedByteLemmas.{letters-past, marked_escaped-after}
+use Rattle.ini_text.proofs.WriteLemmas.MarkedByteLemmas.{marked_escaped-run, pushed_more, stopped_at_mark}
 use Rattle.ini_text.specs.Inside.Verbatim.{marked_escaped}
 use Rattle.ini_text.specs.Escaping.EscapedTexts.{escape, letter_of}
-use Rattle.ini_text.proofs.write.buffer.marked.Buffer+BUFFER_SIZE.push_lanes.Goals.{then-lanes-test+else-len, else-lanes-test}
+use Rattle.ini_text.proofs.write.buffer.marked.Buffer+BUFFER_SIZE.push_lanes.Goals.{then-lanes-test+else-len}
+use Rattle.ini_text.proofs.write.buffer.marked.Buffer+BUFFER_SIZE.push_lanes.Goals.{else-lanes-test}
 use Rattle.ini_text.proofs.write.buffer.marked.Buffer+BUFFER_SIZE.push_lanes.Goals.{then-lanes-test+then-len+else-known-eq0+in_default}
 use Rattle.ini_text.proofs.write.buffer.marked.Buffer+BUFFER_SIZE.push_lanes.Goals as goal
 
