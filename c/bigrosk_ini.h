@@ -156,18 +156,20 @@ struct bigrosk_ini_reading {
 #define BIGROSK_INI_READING_DEFAULT \
     { sizeof(struct bigrosk_ini_reading), true, true, false, false, false, false, BIGROSK_INI_LONE_LINES_RUN_ON, 0, 0 }
 
-/* Which sections of a name are looked at, and which value of a key counts. */
+/* Which sections of a name are looked at, and which value of a key counts, or that all of them do. */
 enum bigrosk_ini_section_rule {
     BIGROSK_INI_SECTIONS_FIRST = 0, /* the first one alone */
     BIGROSK_INI_SECTIONS_JOINED = 1 /* all of them, as if they were one */
 };
 enum bigrosk_ini_value_rule {
     BIGROSK_INI_VALUES_FIRST = 0,
-    BIGROSK_INI_VALUES_LAST = 1
+    BIGROSK_INI_VALUES_LAST = 1,
+    BIGROSK_INI_VALUES_LIST = 2 /* all of them, as a list */
 };
 
 /* By which rule settings are looked up. It begins as BIGROSK_INI_LOOKUP_DEFAULT, the rule of all calls that take none; the calls
- * whose names end in _under take it. */
+ * whose names end in _under take it. With BIGROSK_INI_VALUES_LIST a setting's value is the list of all values of its key, as one
+ * text: a line feed between two, and in each value \n for a line feed and \\ for a backslash. */
 struct bigrosk_ini_lookup {
     uint8_t size;        /* of this struct, as the macro sets it: by it a later library knows what the caller has */
     uint8_t sections;    /* enum bigrosk_ini_section_rule; any other number is refused */
@@ -327,7 +329,8 @@ uint32_t bigrosk_ini_dialect(const uint8_t *name, size_t name_count, struct bigr
 uint32_t bigrosk_ini_dialect_by(const uint8_t *name, size_t name_count, struct bigrosk_ini_reading *reading,
                                 struct bigrosk_ini_write_option *write);
 
-/* Fills the rule in by the name of a dialect: how its programs look up. The size stays.
+/* Fills the rule in by the name of a dialect: how its programs look up, never with BIGROSK_INI_VALUES_LIST, which the caller may put
+ * there then. The size stays.
  * OK; ABSENT where no dialect has the name; NOT_UTF8. With anything but OK the rule is as it was. */
 uint32_t bigrosk_ini_dialect_lookup(const uint8_t *name, size_t name_count, struct bigrosk_ini_lookup *lookup);
 
@@ -551,7 +554,8 @@ uint32_t bigrosk_ini_text_merge3(struct bigrosk_ini_text *base, struct bigrosk_i
 /* The same four under a rule: also UNKNOWN_OPTION, before anything else. A setting has the value that a look-up under the rule
  * finds. What is listed has each name and each key where it first comes, in small letters where case is ignored. A change sets
  * the pair that counts, and where the rule is not the default one other pairs of the key stay; a change without a value to have takes out
- * all pairs of the key that are looked at. */
+ * all pairs of the key that are looked at. With BIGROSK_INI_VALUES_LIST lists are compared and merged as a whole, and a change gives
+ * the key the values of its list, as bigrosk_ini_text_set_all does, in the pairs that are looked at. */
 uint32_t bigrosk_ini_text_diff_under(struct bigrosk_ini_text *from, struct bigrosk_ini_text *to,
                                      const struct bigrosk_ini_lookup *lookup, uint8_t *bytes, size_t bytes_room,
                                      size_t *counts, size_t counts_room, struct bigrosk_ini_sizes *sizes);

@@ -69,6 +69,8 @@ escapes() { awk -v n="$1" 'BEGIN { printf "k = "; for (i = 0; i < n; i++) printf
 notes() { awk -v n="$1" 'BEGIN { for (i = 0; i < n; i++) printf "key%d = value ; note %d\n", i, i }'; }
 # and beside them, in `other`, the same with each hundredth value changed
 compared() { pairs "$1" && pairs "$1" | awk 'NR % 100 == 0 { $0 = $0 "!" } 1' >"$room/other"; }
+# and the changes that lead there, in `edits`
+changed() { compared "$1" | tee "$room/from" && "$file" diff --format edits "$room/from" "$room/other" >"$room/edits"; }
 repeated_key() { pairs "$1" | sed 's/^key[0-9]*/k/'; pairs $(($1 + 1)) | sed 's/^key[0-9]*/k/' >"$room/other"; }
 joined() { repeated "$1" && repeated $(($1 + 1)) >"$room/other"; }
 marks() { awk -v n="$1" 'BEGIN { printf "k = "; for (i = 0; i < n; i++) printf "a;b\\;"; print "" }'; }
@@ -91,6 +93,7 @@ doubles 'separators below each other' 0 pairs 4000 format --align -
 doubles 'pairs sorted by key' 0 pairs 4000 format --sort keys -
 doubles 'sections sorted by name' 0 sections 4000 format --sort sections -
 grows 'what differs' 10 1 compared 10000 diff - "$room/other"
+grows 'values changed in a section' 10 0 changed 10000 apply - "$room/edits"
 doubles 'which lists differ' 1 compared 4000 diff --lists - "$room/other"
 doubles 'which lists of one key differ' 1 repeated_key 4000 diff --lists - "$room/other"
 doubles 'which comments differ' 1 compared 4000 diff --comments - "$room/other"

@@ -50,7 +50,7 @@ KINDS = (
 )
 LONE_LINES = ("run on", "refused", "keys")
 SECTION_RULES = ("first", "joined")
-VALUE_RULES = ("first", "last")
+VALUE_RULES = ("first", "last", "list")
 UNWRITABLE = {UNPLAIN_VALUE: "value", UNPLAIN_KEY: "key", NO_PLACE: "place", UNPLAIN_NAME: "name"}
 
 
@@ -151,8 +151,9 @@ class WriteOption(ctypes.Structure):
 
 class Lookup(ctypes.Structure):
     """By which rule settings are looked up. With sections="joined" all sections of a name are one, where by
-    default the "first" alone is looked at; of a key's values the "first" counts, and with values="last" that.
-    With ignore_case the case of A to Z tells neither keys nor names apart."""
+    default the "first" alone is looked at; of a key's values the "first" counts, with values="last" that, and
+    with values="list" all, as one text, a value a line, in which \\n is a value's line feed and \\\\ its
+    backslash. With ignore_case the case of A to Z tells neither keys nor names apart."""
 
     _fields_ = [
         ("size", ctypes.c_uint8),
@@ -183,7 +184,7 @@ class Lookup(ctypes.Structure):
     @values.setter
     def values(self, word: str) -> None:
         if word not in VALUE_RULES:
-            raise ValueError(f'of values the "first" or the "last" counts: this is {shown(word)}')
+            raise ValueError(f'of values the "first", the "last" or the "list" counts: this is {shown(word)}')
         self._values = VALUE_RULES.index(word)
 
 

@@ -75,8 +75,8 @@ def diff(
 ) -> List[Change]:
     """The settings whose values differ, each once: those of `new` in their order, and then those that it
     lacks. A setting's value is that of the first pair of its key in the first section of its name; by a
-    `lookup`, or that of a `dialect` such as "git", the one that counts there, and where case is ignored names
-    and keys are in small letters."""
+    `lookup`, or that of a `dialect` such as "git", the one that counts there, or the list of all, and where
+    case is ignored names and keys are in small letters."""
     _are_settings(old, new)
     words = [old._it, new._it, lookup_of(lookup, dialect)]
     if old is new:
@@ -96,7 +96,8 @@ def apply(
 ) -> None:
     """Makes the changes, all or none, whatever values the settings have: one with .new is set, and one
     without loses all its pairs. By another rule than the default one the pair that counts is set, and others
-    stay. Unwritable tells by .index which change was refused."""
+    stay; by one of lists the key gets the values of the list. Unwritable tells by .index which change was
+    refused."""
     _are_settings(settings)
     rule = lookup_of(lookup, dialect)
     texts: List[Optional[bytes]] = []

@@ -189,8 +189,11 @@ def compare_numbers():
     for name in ("indented_comments", "inline_comments"):
         comments = re.search(rf"uint8_t {name}; +/\* (.*?) \*/", HEADER.read_text())[1]
         same(name, re.findall(r"\d", comments), [said["true"], said["false"]])
-    for rule, words in (("section", calls_of_module.SECTION_RULES), ("value", calls_of_module.VALUE_RULES)):
-        there, said = numbers(f"{rule}_rule"), re.findall(rf"(\d+) => Some\({rule.title()}Rule::(\w+)\),", SOURCES)
+    lists = re.findall(r"(\d+) => SettingValue::(List),", SOURCES)
+    rules = ("section", calls_of_module.SECTION_RULES, []), ("value", calls_of_module.VALUE_RULES, lists)
+    for rule, words, more in rules:
+        there = numbers(f"{rule}_rule")
+        said = re.findall(rf"(\d+)(?: \| \d+)? => Some\({rule.title()}Rule::(\w+)\),", SOURCES) + more
         same(f"rules of {rule}s", there, {f"{rule}s_{it}".upper(): int(n) for n, it in said})
         same(f"rules of {rule}s of the module", list(there), [f"{rule}s_{it}".upper() for it in words])
     said = {word: n for n, word in re.findall(r"(\d+) => Some\(CaseRule::(\w+)\),", SOURCES)}

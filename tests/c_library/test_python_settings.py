@@ -367,7 +367,39 @@ def under_rules():
     same([type(raised(Lookup, **{it: "second"})) for it in ("sections", "values")], [ValueError, ValueError])
 
 
-parts = mapping, look_ups, changes, defaults, dialects, differences, merges, under_rules, files
+def lists():
+    """All values of a key as one setting: told as a text with a line for each, set and merged as a whole."""
+    rule = Lookup(values="list")
+    same([rule.sections, rule.values, rule.ignore_case], ["first", "list", False])
+    unit = Settings("[u]\nEnvironment=A\nEnvironment=B\nAfter=x\n")
+    other = Settings("[u]\nEnvironment=A\nEnvironment=C\\nD\nAfter=x\n")
+    wanted = [Change("u", "Environment", "A\nB", "A\nC\\nD")]
+    same((diff(unit, other), diff(unit, other, rule)), ([], wanted))
+    apply(wanted, unit, rule)
+    same(str(unit), str(other))
+    apply([Change("u", "Environment", None, "1\n2\n3")], unit, rule)
+    same(unit.get_all("u", "Environment"), ["1", "2", "3"])
+    same(str(unit), "[u]\nEnvironment=1\nEnvironment=2\nAfter=x\nEnvironment=3\n")
+    apply([Change("u", "Environment", "1", None)], unit, rule)
+    same(str(unit), "[u]\nAfter=x\n")
+    base, ours = Settings("[u]\nEnvironment=A\n"), Settings("[u]\nEnvironment=A\nEnvironment=B\n")
+    theirs = Settings("# theirs\n[u]\nEnvironment=A\nAfter=y\n")
+    same(merge3(base, ours, theirs), [])
+    same(str(theirs), "# theirs\n[u]\nEnvironment=A\nAfter=y\n")
+    same(merge3(base, ours, theirs, lookup=rule, dialect="git"), [])
+    same(str(theirs), "# theirs\n[u]\nEnvironment=A\nAfter=y\nEnvironment=B\n")
+    theirs = Settings("[u]\nEnvironment=A\nEnvironment=C\n")
+    refused = raised(merge3, base, ours, theirs, lookup=rule)
+    conflict = Conflict("u", "Environment", "A", "A\nB", "A\nC")
+    same((type(refused), refused.conflicts), (Conflicting, [conflict]))
+    same(merge3(base, ours, theirs, "ours", rule), [conflict])
+    same(str(theirs), str(ours))
+    rule.sections, rule.ignore_case = "joined", True
+    old, new = Settings("[u]\nk=1\n[U]\nK=2\n"), Settings("[u]\nk=1\n")
+    same(diff(old, new, rule), [Change("u", "k", "1\n2", "1")])
+
+
+parts = mapping, look_ups, changes, defaults, dialects, differences, merges, under_rules, lists, files
 for part in (*parts, beside_configparser, random_runs):
     part()
 same(hasattr(bigrosk_ini, "load"), True)

@@ -382,7 +382,7 @@ static void merges_under_rules(void)
     bigrosk_ini_text_close(&theirs);
     for (int i = 0; i < 3; i++) {
         unknown.sections = i == 0 ? 2 : 1;
-        unknown.values = i == 1 ? 2 : 1;
+        unknown.values = i == 1 ? 3 : 1;
         unknown.ignore_case = i == 2 ? 2 : 1;
         CHECK(bigrosk_ini_text_diff_under(&base, &theirs, &unknown, bytes, 64, counts, 8, &sizes) == BIGROSK_INI_UNKNOWN_OPTION);
         CHECK(bigrosk_ini_text_apply_under(&base, &unknown, &plain, bytes, 10, counts, 5, &number)
@@ -395,6 +395,85 @@ static void merges_under_rules(void)
     }
     bigrosk_ini_text_close(&base);
     bigrosk_ini_text_close(&ours);
+}
+
+/* All values of a key as one setting: a list, told as a text with a line for each value, and set as a whole. */
+static void lists_of_values(void)
+{
+    static const char unit[] = "[u]\nEnvironment=A\nEnvironment=B\nAfter=x\n";
+    static const char other[] = "[u]\nEnvironment=A\nEnvironment=C\\nD\nAfter=x\n";
+    struct bigrosk_ini_lookup rule = BIGROSK_INI_LOOKUP_DEFAULT;
+    text from = BIGROSK_INI_TEXT_EMPTY, to = BIGROSK_INI_TEXT_EMPTY;
+    fault f = { 0, 0, 0, "" };
+    uint8_t bytes[64] = { 'x' };
+    size_t counts[24] = { 7 }, n = BIGROSK_INI_UNNAMED, number = 5;
+    struct bigrosk_ini_sizes sizes = BIGROSK_INI_NO_SIZES;
+    CHECK(opened(&from, unit, &f) == BIGROSK_INI_OK && opened(&to, other, &f) == BIGROSK_INI_OK);
+    /* the first values are the same */
+    CHECK(bigrosk_ini_text_diff_under(&from, &to, &rule, bytes, 0, counts, 0, &sizes) == BIGROSK_INI_OK && !sizes.counts);
+    rule.values = BIGROSK_INI_VALUES_LIST;
+    CHECK(bigrosk_ini_text_diff_under(&from, &to, &rule, bytes, 24, counts, 24, &sizes) == BIGROSK_INI_NO_ROOM);
+    CHECK(sizes.bytes == 25 && sizes.counts == 4 && bytes[0] == 'x' && counts[0] == 7);
+    CHECK(bigrosk_ini_text_diff_under(&from, &to, &rule, bytes, 25, counts, 4, &sizes) == BIGROSK_INI_OK);
+    const char texts[] = "u\0" "Environment\0" "A\nB\0" "A\nC\\nD";
+    const size_t lengths[] = { 1, 11, 3, 6 };
+    CHECK(sizes.bytes == sizeof texts && !memcmp(bytes, texts, sizeof texts) && !memcmp(counts, lengths, sizeof lengths));
+    CHECK(bigrosk_ini_text_apply_under(&from, &rule, &plain, bytes, 25, counts, 4, &number) == BIGROSK_INI_OK);
+    CHECK(number == 5 && is_text(&from, other) && is_text(&to, other));
+    CHECK(bigrosk_ini_text_diff_under(&from, &to, &rule, bytes, 0, counts, 0, &sizes) == BIGROSK_INI_OK && !sizes.counts);
+    /* a value more stands in a new pair, the pair of one less goes, and without a list all do */
+    const size_t three[] = { 1, 11, n, 5 }, one[] = { 1, 11, n, 1 }, none[] = { 1, 11, n, n };
+    CHECK(bigrosk_ini_text_apply_under(&from, &rule, &plain, (const uint8_t *)"u\0" "Environment\0" "1\n2\n3", 20, three, 4,
+        &number) == BIGROSK_INI_OK && is_text(&from, "[u]\nEnvironment=1\nEnvironment=2\nAfter=x\nEnvironment=3\n"));
+    CHECK(bigrosk_ini_text_apply_under(&from, &rule, &plain, (const uint8_t *)"u\0" "Environment\0" "4", 16, one, 4, &number)
+        == BIGROSK_INI_OK && is_text(&from, "[u]\nEnvironment=4\nAfter=x\n"));
+    CHECK(bigrosk_ini_text_apply_under(&from, &rule, &plain, (const uint8_t *)"u\0" "Environment", 14, none, 4, &number)
+        == BIGROSK_INI_OK && is_text(&from, "[u]\nAfter=x\n") && number == 5);
+    /* of two changes the second one is refused */
+    const size_t two[] = { 1, 11, n, 3, n, 0, n, 1 };
+    CHECK(bigrosk_ini_text_apply_under(&to, &rule, &plain, (const uint8_t *)"u\0" "Environment\0" "7\n8\0" "\0" "v", 21, two, 8,
+        &number) == BIGROSK_INI_UNPLAIN_KEY && number == 1 && is_text(&to, other));
+    bigrosk_ini_text_close(&from);
+    bigrosk_ini_text_close(&to);
+}
+
+/* Three-way merges of lists, and lists over sections of a name as one, in any case. */
+static void merged_lists(void)
+{
+    struct bigrosk_ini_lookup rule = BIGROSK_INI_LOOKUP_DEFAULT;
+    text base = BIGROSK_INI_TEXT_EMPTY, ours = BIGROSK_INI_TEXT_EMPTY, theirs = BIGROSK_INI_TEXT_EMPTY;
+    fault f = { 0, 0, 0, "" };
+    uint8_t bytes[64] = { 'x' };
+    size_t counts[8] = { 7 }, number = 5;
+    struct bigrosk_ini_sizes sizes = BIGROSK_INI_NO_SIZES;
+    rule.values = BIGROSK_INI_VALUES_LIST;
+    CHECK(opened(&base, "[u]\nEnvironment=A\n", &f) == BIGROSK_INI_OK);
+    CHECK(opened(&ours, "[u]\nEnvironment=A\nEnvironment=B\n", &f) == BIGROSK_INI_OK);
+    CHECK(opened(&theirs, "# theirs\n[u]\nEnvironment=A\nAfter=y\n", &f) == BIGROSK_INI_OK);
+    CHECK(bigrosk_ini_text_conflicts_under(&base, &ours, &theirs, &rule, bytes, 0, counts, 0, &sizes) == BIGROSK_INI_OK);
+    CHECK(bigrosk_ini_text_merge3_under(&base, &ours, &theirs, &rule, &plain, false, &number) == BIGROSK_INI_OK);
+    CHECK(number == 5 && is_text(&theirs, "# theirs\n[u]\nEnvironment=A\nAfter=y\nEnvironment=B\n"));
+    CHECK(opened(&theirs, "[u]\nEnvironment=A\nEnvironment=C\n", &f) == BIGROSK_INI_OK);
+    const char conflict[] = "u\0" "Environment\0" "A\0" "A\nB\0" "A\nC";
+    const size_t lengths[] = { 1, 11, 1, 3, 3 };
+    CHECK(bigrosk_ini_text_conflicts_under(&base, &ours, &theirs, &rule, bytes, 64, counts, 8, &sizes) == BIGROSK_INI_OK);
+    CHECK(sizes.bytes == 24 && !memcmp(bytes, conflict, sizeof conflict));
+    CHECK(sizes.counts == 5 && !memcmp(counts, lengths, sizeof lengths));
+    CHECK(bigrosk_ini_text_merge3_under(&base, &ours, &theirs, &rule, &plain, false, &number) == BIGROSK_INI_OK);
+    CHECK(is_text(&theirs, "[u]\nEnvironment=A\nEnvironment=C\n"));
+    CHECK(bigrosk_ini_text_merge3_under(&base, &ours, &theirs, &rule, &plain, true, &number) == BIGROSK_INI_OK);
+    CHECK(is_text(&theirs, "[u]\nEnvironment=A\nEnvironment=B\n") && number == 5);
+    /* by the other numbers of the rule */
+    rule.sections = BIGROSK_INI_SECTIONS_JOINED;
+    rule.ignore_case = 1;
+    CHECK(opened(&base, "[u]\nk=1\n[v]\n[U]\nK=2\n", &f) == BIGROSK_INI_OK && opened(&ours, "[u]\nk=1\n", &f) == BIGROSK_INI_OK);
+    CHECK(bigrosk_ini_text_diff_under(&base, &ours, &rule, bytes, 64, counts, 8, &sizes) == BIGROSK_INI_OK);
+    CHECK(sizes.bytes == 10 && sizes.counts == 4 && !memcmp(bytes, "u\0" "k\0" "1\n2\0" "1", 10));
+    CHECK(bigrosk_ini_text_apply_under(&base, &rule, &plain, bytes, 10, counts, 4, &number) == BIGROSK_INI_OK);
+    CHECK(is_text(&base, "[u]\nk=1\n[v]\n[U]\n"));
+    bigrosk_ini_text_close(&base);
+    bigrosk_ini_text_close(&ours);
+    bigrosk_ini_text_close(&theirs);
 }
 
 /* The rule of a dialect's programs, by its name; refused, the rule stays. */
@@ -581,6 +660,8 @@ int main(int argc, char **argv)
     joined_sections();
     ignored_case();
     merges_under_rules();
+    lists_of_values();
+    merged_lists();
     rules_of_dialects();
     typed();
     files(argc > 1 ? argv[1] : "text_client.ini");

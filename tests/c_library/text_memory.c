@@ -46,9 +46,13 @@ static const struct bigrosk_ini_write_option option = BIGROSK_INI_WRITE_DEFAULT;
 static const struct bigrosk_ini_lookup rule = {
     sizeof(struct bigrosk_ini_lookup), BIGROSK_INI_SECTIONS_JOINED, BIGROSK_INI_VALUES_LAST, 1
 };
+static const struct bigrosk_ini_lookup lists = {
+    sizeof(struct bigrosk_ini_lookup), BIGROSK_INI_SECTIONS_FIRST, BIGROSK_INI_VALUES_LIST, 0
+};
 enum { open, set, set_new, set_section, add, delete, delete_all, set_nth, set_all, rename_key, rename_section, delete_section,
     add_section, set_comment, comment_out, items, pairs, all, diff, apply, conflicts, merge3,
-    diff_under, apply_under, conflicts_under, merge3_under, to_buffer, calls };
+    diff_under, apply_under, conflicts_under, merge3_under, diff_list, apply_list, conflicts_list, merge3_list, to_buffer,
+    calls };
 
 static bool is_text(struct bigrosk_ini_text *t, const char *want);
 
@@ -63,6 +67,7 @@ static uint32_t call(int which, long n, struct bigrosk_ini_text *t)
     const uint8_t *bytes = (const uint8_t *)"word";
     const char base[] = "port = 1\n[s]\nc = 3\nd = 4\n", ours[] = "port = 2\n[s]\nc = 9\nnew = 1\n";
     const size_t two[] = { BIGROSK_INI_UNNAMED, 4, 2, 1, 1, 1, 1, BIGROSK_INI_UNNAMED };
+    const size_t three[] = { 1, 1, BIGROSK_INI_UNNAMED, 5 };
     struct bigrosk_ini_text b = BIGROSK_INI_TEXT_EMPTY, o = BIGROSK_INI_TEXT_EMPTY;
     uint32_t status = BIGROSK_INI_OK;
     CHECK(bigrosk_ini_text_open_str(base, &b, &f) == BIGROSK_INI_OK && bigrosk_ini_text_open_str(ours, &o, &f) == BIGROSK_INI_OK);
@@ -103,6 +108,14 @@ static uint32_t call(int which, long n, struct bigrosk_ini_text *t)
         status = bigrosk_ini_text_conflicts_under(&b, &o, t, &rule, out, sizeof out, counts, 64, &sizes);
         break;
     case merge3_under: status = bigrosk_ini_text_merge3_under(&b, &o, t, &rule, &option, true, &count); break;
+    case diff_list: status = bigrosk_ini_text_diff_under(&o, t, &lists, out, sizeof out, counts, 64, &sizes); break;
+    case apply_list:
+        status = bigrosk_ini_text_apply_under(t, &lists, &option, (const uint8_t *)"s\0" "c\0" "1\n2\n3", 10, three, 4, &count);
+        break;
+    case conflicts_list:
+        status = bigrosk_ini_text_conflicts_under(&b, &o, t, &lists, out, sizeof out, counts, 64, &sizes);
+        break;
+    case merge3_list: status = bigrosk_ini_text_merge3_under(&b, &o, t, &lists, &option, true, &count); break;
     default: status = bigrosk_ini_text_write(t, out, sizeof out, &count); break;
     }
     left = 1000000000;

@@ -8,7 +8,8 @@
 `ask` writes N random triples of texts that share much, as `ini_replay merges` reads them; `judge` compares what the program
 answered with the model; `random` does both, where PROGRAM is the command `ini_replay merges`. The status is 1 where there is
 a difference. The model knows what each look-up is to answer, and makes the edits of pieces_model.py, each on the whole text.
-In half of them a setting's value is the list of all values of its key, one a line, and is set value by value.
+In half of them a setting's value is the list of all values of its key, one a line, and is set value by value. A tenth have
+many keys and many changes.
 """
 import collections
 
@@ -95,10 +96,18 @@ def line_of(option, writing, side, texts):
     return " ".join(option_words(option, writing) + [side] + [digits(text) for text in texts])
 
 
-def changed(chance, lines, more):
+def many_lines(chance):
+    """Lines of many keys, in some sections."""
+    pairs = [f"{chance.choice('abcdefghijklmnopqrstuvwxyz')}{chance.choice(['=', ' = '])}{chance.choice('123')}\n" for _ in range(40)]
+    for header in ["[a]\n", "[b]\n", "[a]\n"][:chance.randrange(4)]:
+        pairs.insert(chance.randrange(len(pairs)), header)
+    return pairs
+
+
+def changed(chance, lines, more, steps):
     """The lines with some taken out, put in, moved or exchanged."""
     lines = list(lines)
-    for _ in range(chance.choice([0, 1, 1, 2, 3, 5])):
+    for _ in range(steps):
         place = chance.randrange(len(lines) + 1)
         step = chance.random()
         if step < 0.45 or not lines:
@@ -132,8 +141,10 @@ def random_question(chance):
     while True:
         option = random_option(chance, (0.8, 0.8, 0.3, 0.1, 0.1, 0.4, 0.3, 0.3))
         more = MORE + ["k\n", "j\n", "  i\n"] * (option.lone == 2) + ["k=v ;n\n", "j = 2\t#n\n"] * option.notes
-        base = [chance.choice(more if chance.random() < 0.7 else LINES) for _ in range(chance.randrange(9))]
-        texts = ["".join(base), "".join(changed(chance, base, more)), "".join(changed(chance, base, more))]
+        base, steps = [chance.choice(more if chance.random() < 0.7 else LINES) for _ in range(chance.randrange(9))], [0, 1, 1, 2, 3, 5]
+        if chance.random() < 0.1:
+            base, more, steps = many_lines(chance), more + many_lines(chance) * 4, [2, 40, 60]
+        texts = ["".join(base)] + ["".join(changed(chance, base, more, chance.choice(steps))) for _ in range(2)]
         if not all(is_read(text, option) for text in texts) or empties_early(texts, option):
             continue
         side = chance.choice(["ours", "theirs", "ours-lists", "theirs-lists"])

@@ -5,7 +5,8 @@ use Rattle.ini_edit.specs.Sources.{Pieces}
 use Rattle.ini_edit.specs.declared.edit_list.RefusedEdit.{RefusedEdit}
 use Rattle.ini_edit.specs.declared.error.EditError.{EditError}
 use Rattle.ini_layers.specs.Differences.{SettingChange}
-use Rattle.ini_layers.specs.SourceChanges.{RefusesOne}
+use Rattle.ini_layers.specs.SourceChanges.{RefusesOneBy}
+use Rattle.ini_layers.specs.declared.change.SettingValue.{SettingValue}
 use Rattle.ini_text.specs.declared.write.option.WriteOption.{WriteOption}
 use Rattle.ini_c.specs.Changes.{RefusesUnder}
 use Rattle.ini_c.specs.Choices.{IsWriteOption}
@@ -20,14 +21,15 @@ module _ (Q : List SettingChange → Pieces → Pieces → Type 0) where
 
 -- changes are refused
 module _ {choice : WriteChoice} {w : WriteOption} (asked : IsWriteOption choice w) where
-  pub changes-refused : {rule : Lookup} {p : Pieces} {changes given : List SettingChange} {r : RefusedEdit}
-      {e : EditError} → changes ≡ given → r.refusal ≡ e → RefusesOne rule w p changes r
-      → RefusesUnder rule choice p given r.index e
-  changes-refused {rule = rule} {p = p} {changes = changes} {given = given} {r = r}
+  pub changes-refused : {which : SettingValue} {rule : Lookup} {p : Pieces}
+      {changes given : List SettingChange} {r : RefusedEdit} {e : EditError} → changes ≡ given
+      → r.refusal ≡ e → RefusesOneBy which rule w p changes r
+      → RefusesUnder which rule choice p given r.index e
+  changes-refused {which = which} {rule = rule} {p = p} {changes = changes} {given = given} {r = r}
       given_is refusal_is refuses =
       record {
         option = w;
         asked = asked;
-        holds = subst (λ x. RefusesOne rule w p given (record { index = r.index; refusal = x })) refusal_is
-            (subst (λ x. RefusesOne rule w p x r) given_is refuses);
+        holds = subst (λ x. RefusesOneBy which rule w p given (record { index = r.index; refusal = x }))
+            refusal_is (subst (λ x. RefusesOneBy which rule w p x r) given_is refuses);
       }

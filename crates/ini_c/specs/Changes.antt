@@ -2,14 +2,16 @@
 use Rattle.std.specs.Prelude.{ℕ, Bool, true, false, List, [], ◌∷◌, fold, Option, Some, None, ⊤}
 use Rattle.ini.specs.Documents.{Document}
 use Rattle.ini.specs.Texts.{Text}
-use Rattle.ini_dialect.specs.Flattened.{flattened}
 use Rattle.ini_dialect.specs.Rules.{default_lookup, is_own}
 use Rattle.ini_dialect.specs.declared.rule.Lookup.{Lookup}
 use Rattle.ini_edit.specs.Sources.{Pieces, document_in}
 use Rattle.ini_edit.specs.declared.error.EditError.{EditError}
 use Rattle.ini_layers.specs.Differences.{SettingChange, difference}
-use Rattle.ini_layers.specs.Merging.{SettingConflict, conflicts_under, taken_under}
-use Rattle.ini_layers.specs.SourceChanges.{RefusesOne}
+use Rattle.ini_layers.specs.Merging.{SettingConflict, conflicts_by, taken_by}
+use Rattle.ini_layers.specs.Settings.{flat_by}
+use Rattle.ini_layers.specs.SourceChanges.{RefusesOneBy}
+use Rattle.ini_layers.specs.declared.change.SettingValue.{SettingValue}
+use Rattle.ini_layers.specs.declared.change.SettingValue.TheVariants.{Counting, List as WholeList}
 use Rattle.ini_layers.specs.declared.merging.Side.{Side}
 use Rattle.ini_layers.specs.declared.merging.Side.TheVariants.{Ours, Theirs}
 use Rattle.ini_c.specs.Given.{AreTextsGiven, texts_given}
@@ -49,31 +51,37 @@ AreChangesGiven bytes counts = AreTextsGiven bytes counts × AreChanges (texts_g
 abbrev pub changes_given : List ℕ → List ℕ → List SettingChange
 changes_given bytes counts = changes_of (texts_given bytes counts)
 
--- what a document answers under a rule: by the default one that is what it answers itself
-abbrev pub answers_by : Bool → Lookup → Document → Document
-answers_by true rule d = d
-answers_by false rule d = flattened rule d
+-- whether the value that counts by the default rule is a setting's: the one that a document answers itself
+abbrev pub is_own_setting : SettingValue → Lookup → Bool
+is_own_setting Counting rule = is_own rule
+is_own_setting WholeList rule = false
 
-abbrev pub answers_under : Lookup → Document → Document
-answers_under rule d = answers_by (is_own rule) rule d
+-- what a document answers under a rule, by what a setting's value is
+module _ (which : SettingValue) (rule : Lookup) where
+  abbrev pub answers_by : Bool → Document → Document
+  answers_by true d = d
+  answers_by false d = flat_by which rule d
+
+  abbrev pub answers_under : Document → Document
+  answers_under d = answers_by (is_own_setting which rule) d
 
 -- the difference of two documents under a rule, and the conflicts of two with their base, where all are there
-module _ (rule : Lookup) where
+module _ (which : SettingValue) (rule : Lookup) where
   abbrev pub difference_in_under : Option Document → Option Document → Option (List SettingChange)
   difference_in_under (Some from) (Some to) =
-      Some (difference (answers_under rule from) (answers_under rule to))
+      Some (difference (answers_under which rule from) (answers_under which rule to))
   difference_in_under _ _ = None
 
   abbrev pub conflicts_in_under : (base ours theirs : Option Document) → Option (List SettingConflict)
-  conflicts_in_under (Some base) (Some ours) (Some theirs) = Some (conflicts_under rule base ours theirs)
+  conflicts_in_under (Some base) (Some ours) (Some theirs) = Some (conflicts_by which rule base ours theirs)
   conflicts_in_under _ _ _ = None
 
 -- the same where a setting has its first value in the first section
 abbrev pub difference_in : Option Document → Option Document → Option (List SettingChange)
-difference_in from to = difference_in_under default_lookup from to
+difference_in from to = difference_in_under Counting default_lookup from to
 
 abbrev pub conflicts_in : (base ours theirs : Option Document) → Option (List SettingConflict)
-conflicts_in base ours theirs = conflicts_in_under default_lookup base ours theirs
+conflicts_in base ours theirs = conflicts_in_under Counting default_lookup base ours theirs
 
 abbrev pub side_if : Bool → Side
 side_if true = Ours
@@ -85,24 +93,24 @@ abbrev pub Merges : (Document → Document → Pieces → Pieces → Type 0)
 Merges P (Some base) (Some ours) (Some old) (Some new) = P base ours old new
 Merges P _ _ _ _ = ⊥
 
-module _ (rule : Lookup) where
+module _ (which : SettingValue) (rule : Lookup) where
   -- making the changes in the pieces, by an option that the choice asks for, is refused at this index so
   abbrev pub RefusesUnder : WriteChoice → Pieces → List SettingChange → ℕ → EditError → Type 0
   RefusesUnder choice p changes index e =
-      Asks choice (λ w. RefusesOne rule w p changes (record { index = index; refusal = e }))
+      Asks choice (λ w. RefusesOneBy which rule w p changes (record { index = index; refusal = e }))
 
   -- so it is of the changes that a merge makes, where all are there
   abbrev pub RefusesToMergeUnder : WriteChoice → Side → (base ours : Option Document) → Option Pieces → ℕ
       → EditError → Type 0
   RefusesToMergeUnder choice side (Some base) (Some ours) (Some theirs) index e =
-      RefusesUnder choice theirs (taken_under rule side base ours (document_in theirs)) index e
+      RefusesUnder choice theirs (taken_by which rule side base ours (document_in theirs)) index e
   RefusesToMergeUnder choice side _ _ _ index e = ⊥
 
 -- the same by the default rule
 abbrev pub RefusesAt : WriteChoice → Pieces → List SettingChange → ℕ → EditError → Type 0
-RefusesAt choice p changes index e = RefusesUnder default_lookup choice p changes index e
+RefusesAt choice p changes index e = RefusesUnder Counting default_lookup choice p changes index e
 
 abbrev pub RefusesToMerge : WriteChoice → Side → (base ours : Option Document) → Option Pieces → ℕ → EditError
     → Type 0
 RefusesToMerge choice side base ours theirs index e =
-    RefusesToMergeUnder default_lookup choice side base ours theirs index e
+    RefusesToMergeUnder Counting default_lookup choice side base ours theirs index e

@@ -8,15 +8,23 @@ use Rattle.ini_dialect.specs.declared.rule.SectionRule.{SectionRule}
 use Rattle.ini_dialect.specs.declared.rule.SectionRule.TheVariants.{First as FirstSection, Joined}
 use Rattle.ini_dialect.specs.declared.rule.ValueRule.{ValueRule}
 use Rattle.ini_dialect.specs.declared.rule.ValueRule.TheVariants.{First as FirstValue, Last}
+use Rattle.ini_layers.specs.declared.change.SettingValue.{SettingValue}
+use Rattle.ini_layers.specs.declared.change.SettingValue.TheVariants.{Counting, List as WholeList}
 use Rattle.ini_c.specs.declared.rule.LookupChoice.{LookupChoice}
 
 -- which sections of a name are looked at, by a number: other numbers stand for nothing
 abbrev pub section_rule_of : ℕ → Option SectionRule
 section_rule_of n = if n == 0 then Some FirstSection else if n == 1 then Some Joined else None
 
--- the same of which value of a key counts
+-- the same of which value of a key counts: where all do, as a list, it makes no difference which rule that is
 abbrev pub value_rule_of : ℕ → Option ValueRule
-value_rule_of n = if n == 0 then Some FirstValue else if n == 1 then Some Last else None
+value_rule_of n =
+    if n == 0 then Some FirstValue else if n == 1 then Some Last
+    else if n == 2 then Some FirstValue else None
+
+-- what a setting's value is, by the same number
+abbrev pub setting_value_by : ℕ → SettingValue
+setting_value_by n = if n == 2 then WholeList else Counting
 
 -- the same of whether case is ignored
 abbrev pub case_rule_of : ℕ → Option CaseRule
@@ -30,3 +38,7 @@ rule_of c = option_and_then
     (case_rule_of c.ignore_case))
     (value_rule_of c.values))
     (section_rule_of c.sections)
+
+-- what a setting's value is there
+abbrev pub setting_value_of : LookupChoice → SettingValue
+setting_value_of c = setting_value_by c.values

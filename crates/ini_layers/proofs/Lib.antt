@@ -2,6 +2,7 @@ pub mod LookupLemmas
 pub mod LayeringLemmas
 pub mod SettingLemmas
 pub mod DifferenceLemmas
+pub mod FindingLemmas
 pub mod ListingLemmas
 pub mod AfterLemmas
 pub mod MadeLemmas

@@ -21,7 +21,7 @@ use Rattle.ini_edit.specs.declared.source.set.LaterPairs.{LaterPairs}
 use Rattle.ini_edit.specs.declared.source.set.LaterPairs.TheVariants.{TakenOut}
 use Rattle.ini_dialect.specs.ListEdits.{AreAllSetUnder, RefusesToSetAll}
 use Rattle.ini_dialect.specs.Lists.{list_text, list_values}
-use Rattle.ini_dialect.specs.Lookups.{all_values, counting, delete_under, name_fits, set_under, text_fits}
+use Rattle.ini_dialect.specs.Lookups.{all_values, counting, delete_under, name_fits, set_under}
 use Rattle.ini_dialect.specs.Lookups.{value_under}
 use Rattle.ini_dialect.specs.Rules.{default_lookup, is_own}
 use Rattle.ini_dialect.specs.SourceLookups.{AddsPair, AreDeletedUnder, IsPutUnder, RefusesToPutUnder}
@@ -49,7 +49,7 @@ pub on_both : {A E : Type 0} {P Q R : Type 0} (r : Result A E) → OnOk r P → 
 on_both (Ok x) p q both = both p q
 on_both (Err e) p q both = tt
 
-name_kept : (n m : Option Text) → name_fits Kept n m ≡ is_name n m
+pub name_kept : (n m : Option Text) → name_fits Kept n m ≡ is_name n m
 name_kept None None = refl
 name_kept None (Some u) = refl
 name_kept (Some t) None = refl

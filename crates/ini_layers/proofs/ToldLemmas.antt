@@ -1,7 +1,7 @@
 -- Settings of documents that were flattened under a rule: their names and keys are told already, so that
 -- changes of them are found by what a name and a key are told as.
 use Rattle.std.proofs.Common.{◌≡◌, ◌∙◌, ap, sym, refl, inl, inr, Bool, true, false, cond, ◌&&◌, ◌||◌}
-use Rattle.std.proofs.Common.{List, [], ◌∷◌, map, filter, Option, None, Some, is_some}
+use Rattle.std.proofs.Common.{List, [], ◌∷◌, map, filter, Option, None, is_some}
 use Rattle.std.proofs.lemmas.Bool.{and_parts, cases_Bool, false≢true}
 use Rattle.std.proofs.lemmas.List.Folds.{list_all-append, list_all-map}
 use Rattle.std.specs.List.{list_all, list_any}

@@ -1,8 +1,9 @@
 //! Changes put into a text in pieces. This file knows the text by its calls.
-ghost use Rattle.std.specs.Prelude.{◌≡◌, IfErr, IfOk, OnOk, Some, chars, map};
+ghost use Rattle.std.specs.Prelude.{◌≡◌, IfErr, IfOk, OnOk, Some, chars, map, true};
 ghost use Rattle.ini.specs.Properties.{texts_of};
 ghost use Rattle.ini.specs.Texts.{str_name, str_text};
 ghost use Rattle.ini_edit.specs.Sources.{document_in};
+ghost use Rattle.ini_dialect.specs.Rules.{is_own};
 ghost use Rattle.ini_layers.specs.Applying.{HasChanged, HasChangedBy, LeadsTo, LeadsToBy};
 ghost use Rattle.ini_layers.specs.Differences.{setting_change};
 ghost use Rattle.ini_layers.specs.SourceChanges.{AreMade, AreMadeBy, IsMade, IsMadeBy, MakesValue, RefusesOne};
@@ -10,6 +11,7 @@ ghost use Rattle.ini_layers.specs.SourceChanges.{RefusesOneBy, RefusesValue, Ref
 ghost use Rattle.ini_layers.specs.declared.change.SettingValue.TheVariants as SettingValues;
 
 use crate::change::{Change, SettingValue};
+use crate::finder::Finder;
 use ini_dialect::{Lookup, list_values};
 use ini_edit::{EditError, LaterPairs, RefusedEdit, Source};
 use ini_text::WriteOption;
@@ -19,6 +21,10 @@ use std::alloc::{AllocError, Global};
 /// values the settings have there. A setting with a new value has it in the pair that counts; by the default
 /// rule it has one pair then, by another its other pairs stay. One without loses all its pairs that are
 /// looked at. Every byte that these edits don't name stays.
+///
+/// By the default rule values that are set in the order of the text take time in proportion to the text and
+/// to their number, and a pair that is taken out moves those behind it in its section. By another rule each
+/// change goes over its section.
 ///
 /// # Errors
 ///
@@ -68,12 +74,63 @@ pub fn apply_by<'a>(
         Ok(new) => new,
         Err(refusal) => return Err(refused_at(0, refusal.into())),
     };
-    put_each(alloc, which, rule, write, changes, &mut new)?;
+    put_all(alloc, which, rule, write, changes, &mut new)?;
     Ok(new)
 }
 
+// From so many changes on, a document beside the text is worth its making.
+const MANY: usize = 16;
+
 // Makes the changes one after another. Those before one that is refused stay made, so this is for pieces
 // that are dropped then.
+fn put_all(
+    alloc: Global,
+    which: SettingValue,
+    rule: Lookup,
+    write: &WriteOption,
+    changes: &[Change<'_>],
+    source: &mut Source<'_>,
+) -> Result<(), RefusedEdit>
+    ensures made { OnOk result
+        (AreMadeBy which rule write.now source.old (map setting_change changes.now) source.new) }
+    ensures refused { IfErr result
+        (RefusesOneBy which rule write.now source.old (map setting_change changes.now)) }
+{
+    match which {
+        SettingValue::Counting if changes.len() >= MANY && rule.is_own() => {
+            put_found(alloc, rule, write, changes, source)
+        }
+        _ => put_each(alloc, which, rule, write, changes, source),
+    }
+}
+
+// Makes them by the default rule, each where its pair is found from the last one's place on.
+fn put_found(
+    alloc: Global,
+    rule: Lookup,
+    write: &WriteOption,
+    changes: &[Change<'_>],
+    source: &mut Source<'_>,
+) -> Result<(), RefusedEdit>
+    requires own { is_own rule ≡ true }
+    ensures made { OnOk result
+        (AreMade rule write.now source.old (map setting_change changes.now) source.new) }
+    ensures refused { IfErr result
+        (RefusesOne rule write.now source.old (map setting_change changes.now)) }
+{
+    let mut finder = match Finder::new(alloc, source) {
+        Ok(finder) => finder,
+        Err(refusal) => return Err(refused_at(0, refusal.into())),
+    };
+    for (index, change) in changes.iter().enumerate() {
+        if let Err(refusal) = finder.put(alloc, rule, write, *change, source) {
+            return Err(refused_at(index, refusal));
+        }
+    }
+    Ok(())
+}
+
+// Makes them, each where its pair is found from the front on.
 fn put_each(
     alloc: Global,
     which: SettingValue,

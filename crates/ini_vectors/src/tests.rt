@@ -11,6 +11,7 @@ mod large;
 mod layers;
 mod layouts;
 mod lengths;
+mod many_changes;
 mod refusals;
 mod saving;
 mod text_edits;

@@ -5,9 +5,9 @@ ghost use Rattle.std.specs.Option.{option_map};
 ghost use Rattle.ini_dialect.specs.Rules.{default_lookup};
 ghost use Rattle.ini_edit.specs.Sources.{document_in};
 ghost use Rattle.ini_edit.specs.declared.error.EditError.TheVariants.{Key, Name, NoPlace, Value};
-ghost use Rattle.ini_layers.specs.Applying.{HasChanged, LeadsTo};
+ghost use Rattle.ini_layers.specs.Applying.{HasChanged, HasChangedBy, LeadsTo, LeadsToBy};
 ghost use Rattle.ini_layers.specs.Differences.{difference, setting_change};
-ghost use Rattle.ini_layers.specs.SourceChanges.{AreMade};
+ghost use Rattle.ini_layers.specs.SourceChanges.{AreMade, AreMadeBy};
 ghost use Rattle.ini_c.specs.Changes.{AreChangesGiven, RefusesAt, changes_given, changes_listed};
 ghost use Rattle.ini_c.specs.Changes.{RefusesUnder, difference_in, difference_in_under, with_change};
 ghost use Rattle.ini_c.specs.Held.{document_of, pieces_of};
@@ -25,12 +25,11 @@ use crate::options::WriteChoice;
 use crate::pieces::changes::changes_given;
 use crate::pieces::documents::document_under;
 use crate::refusal::status_of;
-use crate::rule::OWN;
+use crate::rule::{OWN, SettingRule};
 use crate::{NO_DOCUMENT, NO_MEMORY, OK};
 use ini::{Error, Ini};
-use ini_dialect::Lookup;
 use ini_edit::Source;
-use ini_layers::{Change, apply, diff};
+use ini_layers::{Change, apply_by, diff};
 use std::alloc::{AllocError, Global};
 
 // Puts a change last.
@@ -68,7 +67,7 @@ fn list_difference(alloc: Global, from: &Ini, to: &Ini) -> Result<Listing, Error
 // The difference of two texts under a rule, as `bigrosk_ini_text_diff` lists it.
 pub(crate) fn diff_under(
     alloc: Global,
-    rule: Lookup,
+    rule: SettingRule,
     from: &mut Text,
     to: &mut Text,
     bytes: &mut [u8],
@@ -77,13 +76,14 @@ pub(crate) fn diff_under(
 ) -> u32
     ensures from_stays { pieces_of from.new ≡ pieces_of from.old }
     ensures to_stays { pieces_of to.new ≡ pieces_of to.old }
-    ensures no_document { result ≡ no_document
-        ↔ (difference_in_under rule (document_of from.old) (document_of to.old) ≡ None) }
+    ensures no_document { result ≡ no_document ↔ (difference_in_under rule.which rule.lookup
+        (document_of from.old) (document_of to.old) ≡ None) }
     ensures listed { result ≡ ok → option_map changes_listed
-        (difference_in_under rule (document_of from.old) (document_of to.old))
+        (difference_in_under rule.which rule.lookup (document_of from.old) (document_of to.old))
         ≡ Some (copied_listing sizes.new bytes.new counts.new) }
     ensures sizes { result ≡ no_room → IsSomeAnd (option_map changes_listed
-        (difference_in_under rule (document_of from.old) (document_of to.old))) (AreSizesOf sizes.new) }
+        (difference_in_under rule.which rule.lookup (document_of from.old) (document_of to.old)))
+        (AreSizesOf sizes.new) }
     ensures no_room { result ≡ no_room → fits sizes.new bytes.old counts.old ≡ false }
     ensures bytes_stay { ¬ (result ≡ ok) → bytes.new ≡ bytes.old }
     ensures counts_stay { ¬ (result ≡ ok) → counts.new ≡ counts.old }
@@ -141,7 +141,7 @@ pub extern "C" fn bigrosk_ini_text_diff(
 // the index of the change that is refused.
 fn apply_given(
     alloc: Global,
-    rule: Lookup,
+    rule: SettingRule,
     source: &mut Source<'_>,
     write: &WriteChoice,
     bytes: &[u8],
@@ -151,16 +151,20 @@ fn apply_given(
     ensures not_utf8 { result ≡ not_utf8 → ¬ AreChangesGiven bytes.now counts.now }
     ensures given { ¬ (IsTrue (is_among result (not_utf8 ∷ no_memory ∷ [])))
         → AreChangesGiven bytes.now counts.now }
-    ensures made { result ≡ ok
-        → AreMadeOf rule write.now (changes_given bytes.now counts.now) source.old source.new }
+    ensures made { result ≡ ok → AreMadeOf rule.which rule.lookup write.now
+        (changes_given bytes.now counts.now) source.old source.new }
     ensures unplain_value { result ≡ unplain_value
-        → RefusesUnder rule write.now source.old (changes_given bytes.now counts.now) refused.new Value }
+        → RefusesUnder rule.which rule.lookup write.now source.old
+        (changes_given bytes.now counts.now) refused.new Value }
     ensures unplain_key { result ≡ unplain_key
-        → RefusesUnder rule write.now source.old (changes_given bytes.now counts.now) refused.new Key }
+        → RefusesUnder rule.which rule.lookup write.now source.old
+        (changes_given bytes.now counts.now) refused.new Key }
     ensures unplain_name { result ≡ unplain_name
-        → RefusesUnder rule write.now source.old (changes_given bytes.now counts.now) refused.new Name }
+        → RefusesUnder rule.which rule.lookup write.now source.old
+        (changes_given bytes.now counts.now) refused.new Name }
     ensures no_place { result ≡ no_place
-        → RefusesUnder rule write.now source.old (changes_given bytes.now counts.now) refused.new NoPlace }
+        → RefusesUnder rule.which rule.lookup write.now source.old
+        (changes_given bytes.now counts.now) refused.new NoPlace }
     ensures unchanged { ¬ (result ≡ ok) → source.new ≡ source.old }
     ensures refused_stays { IsTrue (is_among result (ok ∷ not_utf8 ∷ [])) → refused.new ≡ refused.old }
     ensures statuses { IsTrue (is_among result (ok ∷ not_utf8 ∷ no_memory
@@ -172,7 +176,8 @@ fn apply_given(
         Err(status) => return status,
     };
     let option = write.to_option();
-    match apply(alloc, rule, &option, changes.as_slice(), source) {
+    let (which, lookup) = (rule.which, rule.lookup);
+    match apply_by(alloc, which, lookup, &option, changes.as_slice(), source) {
         Ok(new) => {
             source.replace_with(new);
             OK
@@ -187,7 +192,7 @@ fn apply_given(
 // Makes the changes that C gives in a text under a rule, as `bigrosk_ini_text_apply` makes them.
 pub(crate) fn apply_under(
     alloc: Global,
-    rule: Lookup,
+    rule: SettingRule,
     text: &mut Text,
     write: &WriteChoice,
     bytes: &[u8],
@@ -201,24 +206,28 @@ pub(crate) fn apply_under(
         → AreChangesGiven bytes.now counts.now }
     ensures made { result ≡ ok → Changes
         (λ old new. Asks write.now
-        (λ w. AreMade rule w old (changes_given bytes.now counts.now) new))
+        (λ w. AreMadeBy rule.which rule.lookup w old (changes_given bytes.now counts.now) new))
         (pieces_of text.old) (pieces_of text.new) }
     ensures values { result ≡ ok → Changes
-        (λ old new. HasChanged rule (changes_given bytes.now counts.now)
+        (λ old new. HasChangedBy rule.which rule.lookup (changes_given bytes.now counts.now)
         (document_in old) (document_in new))
         (pieces_of text.old) (pieces_of text.new) }
     ensures leads { result ≡ ok → Changes
-        (λ old new. LeadsTo rule (changes_given bytes.now counts.now)
+        (λ old new. LeadsToBy rule.which rule.lookup (changes_given bytes.now counts.now)
         (document_in old) (document_in new))
         (pieces_of text.old) (pieces_of text.new) }
     ensures unplain_value { result ≡ unplain_value → IsSomeAnd (pieces_of text.old)
-        (λ p. RefusesUnder rule write.now p (changes_given bytes.now counts.now) refused.new Value) }
+        (λ p. RefusesUnder rule.which rule.lookup write.now p
+        (changes_given bytes.now counts.now) refused.new Value) }
     ensures unplain_key { result ≡ unplain_key → IsSomeAnd (pieces_of text.old)
-        (λ p. RefusesUnder rule write.now p (changes_given bytes.now counts.now) refused.new Key) }
+        (λ p. RefusesUnder rule.which rule.lookup write.now p
+        (changes_given bytes.now counts.now) refused.new Key) }
     ensures unplain_name { result ≡ unplain_name → IsSomeAnd (pieces_of text.old)
-        (λ p. RefusesUnder rule write.now p (changes_given bytes.now counts.now) refused.new Name) }
+        (λ p. RefusesUnder rule.which rule.lookup write.now p
+        (changes_given bytes.now counts.now) refused.new Name) }
     ensures no_place { result ≡ no_place → IsSomeAnd (pieces_of text.old)
-        (λ p. RefusesUnder rule write.now p (changes_given bytes.now counts.now) refused.new NoPlace) }
+        (λ p. RefusesUnder rule.which rule.lookup write.now p
+        (changes_given bytes.now counts.now) refused.new NoPlace) }
     ensures unchanged { ¬ (result ≡ ok) → pieces_of text.new ≡ pieces_of text.old }
     ensures refused_stays { IsTrue (is_among result (ok ∷ not_utf8 ∷ no_document ∷ []))
         → refused.new ≡ refused.old }

@@ -1,13 +1,14 @@
 //! Two texts in pieces that changed one base: what both made of it, and where they are in conflict.
-ghost use Rattle.std.specs.Prelude.{◌≡◌, ◌∷◌, [], ◌↔◌, IfOk, IfSome, IsSomeAnd, IsTrue, None, OnOk};
+ghost use Rattle.std.specs.Prelude.{◌≡◌, ◌∷◌, [], ◌↔◌, IfErr, IfOk, IfSome, IsSomeAnd, IsTrue, None, OnOk};
 ghost use Rattle.std.specs.Prelude.{Some, false, map};
 ghost use Rattle.std.specs.Option.{option_map};
 ghost use Rattle.ini_dialect.specs.Rules.{default_lookup};
 ghost use Rattle.ini_edit.specs.Sources.{document_in};
 ghost use Rattle.ini_edit.specs.declared.error.EditError.TheVariants.{Key, Name, NoPlace, Value};
-ghost use Rattle.ini_layers.specs.Merging.{IsMerged, conflicts_under, setting_conflict, taken_under};
-ghost use Rattle.ini_layers.specs.Settings.{AlikeUnder};
-ghost use Rattle.ini_layers.specs.SourceChanges.{AreMade};
+ghost use Rattle.ini_layers.specs.Merging.{IsMerged, IsMergedBy, conflicts_by, setting_conflict, taken_by};
+ghost use Rattle.ini_layers.specs.Merging.{taken_under};
+ghost use Rattle.ini_layers.specs.Settings.{AlikeBy, AlikeUnder};
+ghost use Rattle.ini_layers.specs.SourceChanges.{AreMade, AreMadeBy, RefusesOneBy};
 ghost use Rattle.ini_c.specs.Changes.{Merges, RefusesToMerge, RefusesToMergeUnder, RefusesUnder};
 ghost use Rattle.ini_c.specs.Changes.{conflicts_in, conflicts_in_under, conflicts_listed, side_if};
 ghost use Rattle.ini_c.specs.Changes.{with_conflict};
@@ -24,15 +25,13 @@ use crate::document::Text;
 use crate::listing::Listing;
 use crate::options::WriteChoice;
 use crate::pieces::differences::push_change;
-use crate::pieces::documents::to_document;
 use crate::refusal::status_of;
-use crate::rule::OWN;
+use crate::rule::{OWN, SettingRule};
 use crate::tied::Tied;
 use crate::{NO_DOCUMENT, NO_MEMORY, OK};
-use ini::{Error, Ini};
-use ini_dialect::Lookup;
-use ini_edit::Source;
-use ini_layers::{Conflict, FlatSides, Side, merge};
+use ini::{Error, Ini, WriteOption};
+use ini_edit::{RefusedEdit, Source};
+use ini_layers::{Conflict, FlatSides, Side, to_document};
 use std::alloc::{AllocError, Global};
 
 // Puts a conflict last.
@@ -59,15 +58,15 @@ fn list_conflicts(alloc: Global, conflicts: &[Conflict<'_>]) -> Result<Listing, 
 // The conflicts of a document and a text with their base, under a rule.
 fn list_all(
     alloc: Global,
-    rule: Lookup,
+    rule: SettingRule,
     base: &Ini,
     ours: &Ini,
     theirs: &Source<'_>,
 ) -> Result<Listing, Error>
     ensures { IfOk result (λ listing. contents listing ≡ conflicts_listed
-        (conflicts_under rule base.now ours.now (document_in theirs.now))) }
+        (conflicts_by rule.which rule.lookup base.now ours.now (document_in theirs.now))) }
 {
-    let sides = FlatSides::new(alloc, rule, base, ours, theirs)?;
+    let sides = FlatSides::by(alloc, rule.which, rule.lookup, base, ours, theirs)?;
     let found = sides.conflicts(alloc)?;
     Ok(list_conflicts(alloc, found.as_slice())?)
 }
@@ -75,7 +74,7 @@ fn list_all(
 // The same of texts that are open; `None` when out of memory.
 fn list_between(
     alloc: Global,
-    rule: Lookup,
+    rule: SettingRule,
     base: &mut Tied,
     ours: &mut Tied,
     theirs: &mut Tied,
@@ -83,8 +82,9 @@ fn list_between(
     ensures base_stays { base.new.value ≡ base.old.value }
     ensures ours_stay { ours.new.value ≡ ours.old.value }
     ensures theirs_stay { theirs.new.value ≡ theirs.old.value }
-    ensures listed { IfSome result (λ listing. contents listing ≡ conflicts_listed (conflicts_under rule
-        (document_in base.old.value) (document_in ours.old.value) (document_in theirs.old.value))) }
+    ensures listed { IfSome result (λ listing. contents listing
+        ≡ conflicts_listed (conflicts_by rule.which rule.lookup (document_in base.old.value)
+        (document_in ours.old.value) (document_in theirs.old.value))) }
 {
     let Ok(base) = base.with(|source| to_document(alloc, source)) else {
         return None;
@@ -101,7 +101,7 @@ fn list_between(
 // The conflicts of two texts with their base under a rule, as `bigrosk_ini_text_conflicts` lists them.
 pub(crate) fn conflicts_between(
     alloc: Global,
-    rule: Lookup,
+    rule: SettingRule,
     base: &mut Text,
     ours: &mut Text,
     theirs: &mut Text,
@@ -112,14 +112,14 @@ pub(crate) fn conflicts_between(
     ensures base_stays { pieces_of base.new ≡ pieces_of base.old }
     ensures ours_stay { pieces_of ours.new ≡ pieces_of ours.old }
     ensures theirs_stay { pieces_of theirs.new ≡ pieces_of theirs.old }
-    ensures no_document { result ≡ no_document
-        ↔ (conflicts_in_under rule (document_of base.old) (document_of ours.old) (document_of theirs.old)
-        ≡ None) }
-    ensures listed { result ≡ ok → option_map conflicts_listed
-        (conflicts_in_under rule (document_of base.old) (document_of ours.old) (document_of theirs.old))
+    ensures no_document { result ≡ no_document ↔ (conflicts_in_under rule.which rule.lookup
+        (document_of base.old) (document_of ours.old) (document_of theirs.old) ≡ None) }
+    ensures listed { result ≡ ok → option_map conflicts_listed (conflicts_in_under rule.which rule.lookup
+        (document_of base.old) (document_of ours.old) (document_of theirs.old))
         ≡ Some (copied_listing sizes.new bytes.new counts.new) }
     ensures sizes { result ≡ no_room → IsSomeAnd (option_map conflicts_listed
-        (conflicts_in_under rule (document_of base.old) (document_of ours.old) (document_of theirs.old)))
+        (conflicts_in_under rule.which rule.lookup
+        (document_of base.old) (document_of ours.old) (document_of theirs.old)))
         (AreSizesOf sizes.new) }
     ensures no_room { result ≡ no_room → fits sizes.new bytes.old counts.old ≡ false }
     ensures bytes_stay { ¬ (result ≡ ok) → bytes.new ≡ bytes.old }
@@ -179,11 +179,48 @@ fn side_of(take_ours: bool) -> Side
     if take_ours { Side::Ours } else { Side::Theirs }
 }
 
+// Theirs with the changes that `ours` made to the base, under a rule, as `ini_layers::merge` makes them.
+fn merged<'a>(
+    alloc: Global,
+    rule: SettingRule,
+    write: &WriteOption,
+    base: &Ini,
+    ours: &Ini,
+    theirs: &Source<'a>,
+    side: Side,
+) -> Result<Source<'a>, RefusedEdit>
+    ensures merged { IfOk result (λ new. IsMergedBy rule.which rule.lookup side base.now ours.now
+        (document_in theirs.now) (document_in new)) }
+    ensures made { IfOk result (AreMadeBy rule.which rule.lookup write.now theirs.now
+        (taken_by rule.which rule.lookup side base.now ours.now (document_in theirs.now))) }
+    ensures ours_is_base { AlikeBy rule.which rule.lookup base.now ours.now
+        → IfOk result (λ new. new ≡ theirs.now) }
+    ensures theirs_is_base { AlikeBy rule.which rule.lookup base.now (document_in theirs.now)
+        → IfOk result (λ new. AlikeBy rule.which rule.lookup ours.now (document_in new)) }
+    ensures both_alike { AlikeBy rule.which rule.lookup ours.now (document_in theirs.now)
+        → IfOk result (λ new. new ≡ theirs.now) }
+    ensures refused { IfErr result (RefusesOneBy rule.which rule.lookup write.now theirs.now
+        (taken_by rule.which rule.lookup side base.now ours.now (document_in theirs.now))) }
+{
+    let (which, lookup) = (rule.which, rule.lookup);
+    let sides = match FlatSides::by(alloc, which, lookup, base, ours, theirs) {
+        Ok(sides) => sides,
+        Err(refusal) => {
+            return Err(RefusedEdit {
+                index: 0,
+                refusal: refusal.into(),
+            });
+        }
+    };
+    let new = sides.merge_by(alloc, which, lookup, write, theirs, side)?;
+    Ok(new)
+}
+
 // Makes what `ours` changed in `base` in `theirs` under a rule; the status of that, and the index of the
 // change that is refused.
 fn merge_into(
     alloc: Global,
-    rule: Lookup,
+    rule: SettingRule,
     base: &Ini,
     ours: &Ini,
     theirs: &mut Source<'_>,
@@ -191,20 +228,20 @@ fn merge_into(
     take_ours: bool,
     refused: &mut usize,
 ) -> u32
-    ensures made { result ≡ ok
-        → IsMergeOf rule write.now (side_if take_ours) base.now ours.now theirs.old theirs.new }
+    ensures made { result ≡ ok → IsMergeOf rule.which rule.lookup write.now
+        (side_if take_ours) base.now ours.now theirs.old theirs.new }
     ensures unplain_value { result ≡ unplain_value
-        → RefusesUnder rule write.now theirs.old (taken_under rule (side_if take_ours) base.now ours.now
-        (document_in theirs.old)) refused.new Value }
+        → RefusesUnder rule.which rule.lookup write.now theirs.old (taken_by rule.which rule.lookup
+        (side_if take_ours) base.now ours.now (document_in theirs.old)) refused.new Value }
     ensures unplain_key { result ≡ unplain_key
-        → RefusesUnder rule write.now theirs.old (taken_under rule (side_if take_ours) base.now ours.now
-        (document_in theirs.old)) refused.new Key }
+        → RefusesUnder rule.which rule.lookup write.now theirs.old (taken_by rule.which rule.lookup
+        (side_if take_ours) base.now ours.now (document_in theirs.old)) refused.new Key }
     ensures unplain_name { result ≡ unplain_name
-        → RefusesUnder rule write.now theirs.old (taken_under rule (side_if take_ours) base.now ours.now
-        (document_in theirs.old)) refused.new Name }
+        → RefusesUnder rule.which rule.lookup write.now theirs.old (taken_by rule.which rule.lookup
+        (side_if take_ours) base.now ours.now (document_in theirs.old)) refused.new Name }
     ensures no_place { result ≡ no_place
-        → RefusesUnder rule write.now theirs.old (taken_under rule (side_if take_ours) base.now ours.now
-        (document_in theirs.old)) refused.new NoPlace }
+        → RefusesUnder rule.which rule.lookup write.now theirs.old (taken_by rule.which rule.lookup
+        (side_if take_ours) base.now ours.now (document_in theirs.old)) refused.new NoPlace }
     ensures unchanged { ¬ (result ≡ ok) → theirs.new ≡ theirs.old }
     ensures refused_stays { result ≡ ok → refused.new ≡ refused.old }
     ensures statuses { IsTrue (is_among result (ok ∷ no_memory
@@ -213,7 +250,7 @@ fn merge_into(
 {
     let option = write.to_option();
     let side = side_of(take_ours);
-    match merge(alloc, rule, &option, base, ours, theirs, side) {
+    match merged(alloc, rule, &option, base, ours, theirs, side) {
         Ok(new) => {
             theirs.replace_with(new);
             OK
@@ -228,7 +265,7 @@ fn merge_into(
 // Makes what `ours` changed in `base` in `theirs` under a rule, as `bigrosk_ini_text_merge3` does.
 pub(crate) fn merge_under(
     alloc: Global,
-    rule: Lookup,
+    rule: SettingRule,
     base: &mut Text,
     ours: &mut Text,
     theirs: &mut Text,
@@ -238,33 +275,36 @@ pub(crate) fn merge_under(
 ) -> u32
     ensures base_stays { pieces_of base.new ≡ pieces_of base.old }
     ensures ours_stay { pieces_of ours.new ≡ pieces_of ours.old }
-    ensures no_document { result ≡ no_document
-        ↔ (conflicts_in_under rule (document_of base.old) (document_of ours.old) (document_of theirs.old)
-        ≡ None) }
+    ensures no_document { result ≡ no_document ↔ (conflicts_in_under rule.which rule.lookup
+        (document_of base.old) (document_of ours.old) (document_of theirs.old) ≡ None) }
     ensures merged { result ≡ ok → Merges (λ base ours old new.
-        IsMerged rule (side_if take_ours) base ours (document_in old) (document_in new))
+        IsMergedBy rule.which rule.lookup (side_if take_ours) base ours (document_in old) (document_in new))
         (document_of base.old) (document_of ours.old) (pieces_of theirs.old) (pieces_of theirs.new) }
     ensures made { result ≡ ok → Merges (λ base ours old new. Asks write.now
-        (λ w. AreMade rule w old
-        (taken_under rule (side_if take_ours) base ours (document_in old)) new))
+        (λ w. AreMadeBy rule.which rule.lookup w old
+        (taken_by rule.which rule.lookup (side_if take_ours) base ours (document_in old)) new))
         (document_of base.old) (document_of ours.old) (pieces_of theirs.old) (pieces_of theirs.new) }
     ensures ours_is_base { result ≡ ok → Merges
-        (λ base ours old new. AlikeUnder rule base ours → new ≡ old)
+        (λ base ours old new. AlikeBy rule.which rule.lookup base ours → new ≡ old)
         (document_of base.old) (document_of ours.old) (pieces_of theirs.old) (pieces_of theirs.new) }
     ensures theirs_is_base { result ≡ ok → Merges
-        (λ base ours old new. AlikeUnder rule base (document_in old)
-        → AlikeUnder rule ours (document_in new))
+        (λ base ours old new. AlikeBy rule.which rule.lookup base (document_in old)
+        → AlikeBy rule.which rule.lookup ours (document_in new))
         (document_of base.old) (document_of ours.old) (pieces_of theirs.old) (pieces_of theirs.new) }
     ensures both_alike { result ≡ ok → Merges
-        (λ base ours old new. AlikeUnder rule ours (document_in old) → new ≡ old)
+        (λ base ours old new. AlikeBy rule.which rule.lookup ours (document_in old) → new ≡ old)
         (document_of base.old) (document_of ours.old) (pieces_of theirs.old) (pieces_of theirs.new) }
-    ensures unplain_value { result ≡ unplain_value → RefusesToMergeUnder rule write.now (side_if take_ours)
+    ensures unplain_value { result ≡ unplain_value → RefusesToMergeUnder
+        rule.which rule.lookup write.now (side_if take_ours)
         (document_of base.old) (document_of ours.old) (pieces_of theirs.old) refused.new Value }
-    ensures unplain_key { result ≡ unplain_key → RefusesToMergeUnder rule write.now (side_if take_ours)
+    ensures unplain_key { result ≡ unplain_key → RefusesToMergeUnder
+        rule.which rule.lookup write.now (side_if take_ours)
         (document_of base.old) (document_of ours.old) (pieces_of theirs.old) refused.new Key }
-    ensures unplain_name { result ≡ unplain_name → RefusesToMergeUnder rule write.now (side_if take_ours)
+    ensures unplain_name { result ≡ unplain_name → RefusesToMergeUnder
+        rule.which rule.lookup write.now (side_if take_ours)
         (document_of base.old) (document_of ours.old) (pieces_of theirs.old) refused.new Name }
-    ensures no_place { result ≡ no_place → RefusesToMergeUnder rule write.now (side_if take_ours)
+    ensures no_place { result ≡ no_place → RefusesToMergeUnder
+        rule.which rule.lookup write.now (side_if take_ours)
         (document_of base.old) (document_of ours.old) (pieces_of theirs.old) refused.new NoPlace }
     ensures unchanged { ¬ (result ≡ ok) → pieces_of theirs.new ≡ pieces_of theirs.old }
     ensures refused_stays { IsTrue (is_among result (ok ∷ no_document ∷ [])) → refused.new ≡ refused.old }

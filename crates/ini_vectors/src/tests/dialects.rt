@@ -122,22 +122,47 @@ const LISTS: [(&'static str, &'static str, &'static str, usize); 6] = [
     ("jli", "1|2|3|4|", "k|x|", 2),
 ];
 
+/// All values of `k` in section `a`, with a stroke after each.
+fn values_of(alloc: Global, lookup: Lookup, document: &Ini) -> Result<String, AllocError> {
+    let all = lookup.get_all(alloc, AnyDocument::Ini(document), Some("a"), "k")?;
+    joined(alloc, all.as_slice())
+}
+
+/// The keys there.
+fn keys_of(alloc: Global, lookup: Lookup, document: &Ini) -> Result<String, AllocError> {
+    let listed = lookup.keys(alloc, AnyDocument::Ini(document), Some("a"))?;
+    joined(alloc, listed.as_slice())
+}
+
+/// How many sections there are.
+fn section_count(alloc: Global, lookup: Lookup, document: &Ini) -> Result<usize, AllocError> {
+    let names = lookup.sections(alloc, AnyDocument::Ini(document))?;
+    Ok(names.len())
+}
+
+/// Asks the document of the text for its lists under the rule.
+fn expect_lists(
+    rt: &(impl Abort + AllocGlobal),
+    document: &Ini,
+    (letters, values, keys, count): (&str, &str, &str, usize),
+) -> Result<(), Fail> {
+    let (alloc, lookup) = (rt.alloc(), rule(rt, letters));
+    let all = values_of(alloc, lookup, document)?;
+    assert!(rt; all.as_str() == values, "{letters}");
+    let listed = keys_of(alloc, lookup, document)?;
+    assert!(rt; listed.as_str() == keys, "{letters}");
+    assert!(rt;
+        section_count(alloc, lookup, document)? == count,
+        "{letters}"
+    );
+    Ok(())
+}
+
 #[test]
 fn the_rule_says_which_sections_are_looked_at(rt: HostRuntime) -> Result<(), Fail> {
-    let alloc = rt.alloc();
-    let ini = Ini::load_from_str(alloc, TEXT)?;
-    for (letters, values, keys, count) in LISTS {
-        let lookup = rule(&rt, letters);
-        let all = lookup.get_all(alloc, AnyDocument::Ini(&ini), Some("a"), "k")?;
-        let all = joined(alloc, all.as_slice())?;
-        let listed = lookup.keys(alloc, AnyDocument::Ini(&ini), Some("a"))?;
-        let listed = joined(alloc, listed.as_slice())?;
-        let names = lookup.sections(alloc, AnyDocument::Ini(&ini))?;
-        assert!(rt;
-            all.as_str() == values && listed.as_str() == keys,
-            "{letters}"
-        );
-        assert!(rt; names.len() == count, "{letters}");
+    let document = Ini::load_from_str(rt.alloc(), TEXT)?;
+    for row in LISTS {
+        expect_lists(&rt, &document, row)?;
     }
     Ok(())
 }

@@ -193,28 +193,81 @@ fn shown_conflicts(alloc: Global, conflicts: &[Conflict<'_>]) -> Result<String, 
     Ok(out)
 }
 
-/// The text of a merge where this side is chosen, and the changes that it makes; a bar after each.
-fn merged_for(
+/// The changes that a merge makes where this side is chosen.
+fn taken_for(
+    alloc: Global,
+    rule: Lookup,
+    (base, ours, theirs): (&Ini, &Ini, &Source<'_>),
+    side: Side,
+) -> Result<String, Error> {
+    let sides = FlatSides::new(alloc, rule, base, ours, theirs)?;
+    let changes = sides.taken(alloc, side)?;
+    shown(alloc, changes.as_slice())
+}
+
+/// The text of a merge where this side is chosen.
+fn text_for(
     alloc: Global,
     rule: Lookup,
     (base, ours, theirs): (&Ini, &Ini, &Source<'_>),
     side: Side,
 ) -> Result<String, EditError> {
-    let sides = FlatSides::new(alloc, rule, base, ours, theirs)?;
-    let changes = sides.taken(alloc, side)?;
-    let changes = shown(alloc, changes.as_slice())?;
     let write = WriteOption::default();
     match merge(alloc, rule, &write, base, ours, theirs, side) {
-        Ok(new) => {
-            let mut out = new.to_text(alloc)?;
-            put(&mut out, &["|", changes.as_str(), "|"])?;
-            Ok(out)
-        }
+        Ok(new) => Ok(new.to_text(alloc)?),
         Err(refused) => Err(refused.refusal),
     }
 }
 
-/// That for each side, and then the conflicts.
+/// That text, and those changes; a bar after each.
+fn merged_for(
+    alloc: Global,
+    rule: Lookup,
+    texts: (&Ini, &Ini, &Source<'_>),
+    side: Side,
+) -> Result<String, EditError> {
+    let mut out = text_for(alloc, rule, texts, side)?;
+    let changes = taken_for(alloc, rule, texts, side)?;
+    put(&mut out, &["|", changes.as_str(), "|"])?;
+    Ok(out)
+}
+
+/// The conflicts of a merge.
+fn conflicts_of(
+    alloc: Global,
+    rule: Lookup,
+    (base, ours, theirs): (&Ini, &Ini, &Source<'_>),
+) -> Result<String, Error> {
+    let sides = FlatSides::new(alloc, rule, base, ours, theirs)?;
+    let found = sides.conflicts(alloc)?;
+    shown_conflicts(alloc, found.as_slice())
+}
+
+/// What is merged for each side.
+fn merged_both(
+    alloc: Global,
+    rule: Lookup,
+    texts: (&Ini, &Ini, &Source<'_>),
+) -> Result<String, EditError> {
+    let mut out = merged_for(alloc, rule, texts, Side::Ours)?;
+    let by_theirs = merged_for(alloc, rule, texts, Side::Theirs)?;
+    put(&mut out, &[by_theirs.as_str()])?;
+    Ok(out)
+}
+
+/// That, and then the conflicts.
+fn merged_all(
+    alloc: Global,
+    rule: Lookup,
+    texts: (&Ini, &Ini, &Source<'_>),
+) -> Result<String, EditError> {
+    let mut out = merged_both(alloc, rule, texts)?;
+    let found = conflicts_of(alloc, rule, texts)?;
+    put(&mut out, &[found.as_str()])?;
+    Ok(out)
+}
+
+/// That of the documents of three texts.
 pub(crate) fn merged(
     alloc: Global,
     rule: Lookup,
@@ -225,14 +278,7 @@ pub(crate) fn merged(
     let base = Ini::load_from_str(alloc, base)?;
     let ours = Ini::load_from_str(alloc, ours)?;
     let theirs = Source::read(alloc, theirs, ParseOption::default())?;
-    let texts = (&base, &ours, &theirs);
-    let mut out = merged_for(alloc, rule, texts, Side::Ours)?;
-    let by_theirs = merged_for(alloc, rule, texts, Side::Theirs)?;
-    let sides = FlatSides::new(alloc, rule, &base, &ours, &theirs)?;
-    let found = sides.conflicts(alloc)?;
-    let found = shown_conflicts(alloc, found.as_slice())?;
-    put(&mut out, &[by_theirs.as_str(), found.as_str()])?;
-    Ok(out)
+    merged_all(alloc, rule, (&base, &ours, &theirs))
 }
 
 /// Base, ours and theirs; and what a merge makes of them.

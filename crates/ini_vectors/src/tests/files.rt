@@ -3,7 +3,9 @@ use ini::{Error, EscapePolicy, Ini, ParseOption, WriteOption};
 use std::fs::Permissions;
 use std::io::ErrorKind;
 use std::os::unix::fs::PermissionsExt;
+use std::panic::Expect;
 use std::path::Path;
+use std::process::Abort;
 use std::rt::Files;
 use std::test::Fail;
 use std::{fs, io};
@@ -118,25 +120,61 @@ fn set_mode(rt: &impl Files, mode: u32) -> io::Result<()> {
     fs::set_permissions(rt, NAME, Permissions::from_mode(mode))
 }
 
+/// Whether no form of writing may write the document of the text into the file.
+fn is_kept_out(rt: &(impl Files + AllocGlobal + Abort), text: &str) -> bool {
+    let document = Ini::load_from_str(rt.alloc(), text).expect(rt, "a document");
+    is_not_written(rt, &document, NAME, ErrorKind::PermissionDenied)
+}
+
+/// Whether no form of loading may read the file.
+fn is_hidden(rt: &(impl Files + AllocGlobal)) -> bool {
+    is_not_read(rt, NAME, ErrorKind::PermissionDenied)
+}
+
+/// Whether the file's document has this value.
+fn has_value(rt: &(impl Files + AllocGlobal), value: &str) -> Result<bool, Error> {
+    let kept = Ini::load_from_file(rt, rt.alloc(), Path::new(NAME))?;
+    Ok(kept.get_from(None, "k") == Some(value))
+}
+
+/// Writes the document of the text into the file.
+fn write_document(rt: &(impl Files + AllocGlobal), text: &str) -> Result<(), Error> {
+    let document = Ini::load_from_str(rt.alloc(), text)?;
+    document.write_to_file(rt, Path::new(NAME))
+}
+
+/// Whether the file has these bytes.
+fn holds(rt: &(impl Files + AllocGlobal), bytes: &[u8]) -> io::Result<bool> {
+    Ok(fs::read(rt, NAME)?.as_slice() == bytes)
+}
+
+/// A file that may be read alone.
+fn expect_reading_alone(rt: &(impl Files + AllocGlobal + Abort)) -> Result<(), Fail> {
+    set_mode(rt, 0o400)?;
+    assert!(rt; is_kept_out(rt, "k=2"));
+    assert!(rt; has_value(rt, "1")?);
+    Ok(())
+}
+
+/// A file that may be written alone.
+fn expect_writing_alone(rt: &(impl Files + AllocGlobal + Abort)) -> Result<(), Fail> {
+    set_mode(rt, 0o200)?;
+    assert!(rt; is_hidden(rt));
+    write_document(rt, "k=2")?;
+    set_mode(rt, 0o600)?;
+    assert!(rt; holds(rt, b"k=2\n".as_slice())?);
+    Ok(())
+}
+
 // One who may open any file, as root may, gets no fault.
 #[test]
 fn files_without_the_right_to_them(rt: HostRuntime) -> Result<(), Fail> {
-    let (alloc, path, denied) = (rt.alloc(), Path::new(NAME), ErrorKind::PermissionDenied);
-    let document = Ini::load_from_str(alloc, "k=2")?;
     fs::write(&rt, NAME, "k=1\n")?;
     set_mode(&rt, 0)?;
     if fs::open(&rt, NAME).is_ok() {
         return Ok(());
     }
-    assert!(rt; is_not_read(&rt, NAME, denied) && is_not_written(&rt, &document, NAME, denied));
-    set_mode(&rt, 0o400)?;
-    assert!(rt; is_not_written(&rt, &document, NAME, denied));
-    let kept = Ini::load_from_file(&rt, alloc, path)?;
-    assert!(rt; kept.get_from(None, "k") == Some("1"));
-    set_mode(&rt, 0o200)?;
-    assert!(rt; is_not_read(&rt, NAME, denied));
-    document.write_to_file(&rt, path)?;
-    set_mode(&rt, 0o600)?;
-    assert!(rt; fs::read(&rt, NAME)?.as_slice() == b"k=2\n".as_slice());
-    Ok(())
+    assert!(rt; is_hidden(&rt) && is_kept_out(&rt, "k=2"));
+    expect_reading_alone(&rt)?;
+    expect_writing_alone(&rt)
 }

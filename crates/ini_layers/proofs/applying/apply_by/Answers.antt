@@ -15,8 +15,8 @@ returns-in-Err-clause-refused c =
 pub returns-clause-made : goal.returns-clause-made
 returns-clause-made c =
     subst (λ p. AreMadeBy c.args.which c.args.rule c.args.write.now p (map setting_change c.args.changes.now)
-    c.put_each.new.source)
-    c.in-Ok.ensures.copied c.in_ok-put_each.ensures.made
+    c.put_all.new.source)
+    c.in-Ok.ensures.copied c.in_ok-put_all.ensures.made
 
 pub returns-clause-values : goal.returns-clause-values
 returns-clause-values c = made-values c.args.which c.args.rule c.args.write.now (returns-clause-made c)

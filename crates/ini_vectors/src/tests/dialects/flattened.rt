@@ -8,6 +8,7 @@ use ini_edit::Source;
 use ini_text::ParseOption;
 use ini_view::View;
 use std::alloc::Global;
+use std::process::Abort;
 use std::test::Fail;
 
 /// Sections and keys that come again, in other orders.
@@ -78,23 +79,45 @@ fn flat(
     shown(alloc, &flat)
 }
 
+/// What the text's document shows under the rule.
+fn flat_document(alloc: Global, lookup: Lookup, text: &str) -> Result<String, ini::Error> {
+    let document = Ini::load_from_str(alloc, text)?;
+    flat(alloc, lookup, AnyDocument::Ini(&document))
+}
+
+/// What the text's view does.
+fn flat_view(alloc: Global, lookup: Lookup, text: &str) -> Result<String, ini::Error> {
+    let view = View::load_from_str(alloc, text)?;
+    flat(alloc, lookup, AnyDocument::View(&view))
+}
+
+/// What the text in pieces does.
+fn flat_pieces(alloc: Global, lookup: Lookup, text: &str) -> Result<String, ini::Error> {
+    let source = Source::read(alloc, text, ParseOption::default())?;
+    flat(alloc, lookup, AnyDocument::Source(&source))
+}
+
+/// Fails where something else is shown.
+fn expect_shown(rt: &impl Abort, form: &str, shown: &str, want: &str) {
+    assert!(rt; shown == want, "{form}: {shown}");
+}
+
+/// Asks all three.
+fn expect_flat(
+    rt: &(impl Abort + AllocGlobal),
+    (letters, text, want): (&str, &str, &str),
+) -> Result<(), Fail> {
+    let (alloc, lookup) = (rt.alloc(), rule(rt, letters));
+    expect_shown(rt, letters, &flat_document(alloc, lookup, text)?, want);
+    expect_shown(rt, letters, &flat_view(alloc, lookup, text)?, want);
+    expect_shown(rt, letters, &flat_pieces(alloc, lookup, text)?, want);
+    Ok(())
+}
+
 #[test]
 fn a_document_is_flattened_by_the_rule(rt: HostRuntime) -> Result<(), Fail> {
-    let alloc = rt.alloc();
-    for (letters, text, want) in FLAT {
-        let lookup = rule(&rt, letters);
-        let document = Ini::load_from_str(alloc, text)?;
-        let of_document = flat(alloc, lookup, AnyDocument::Ini(&document))?;
-        assert!(rt; of_document.as_str() == want, "{letters}: {of_document}");
-        let view = View::load_from_str(alloc, text)?;
-        let of_view = flat(alloc, lookup, AnyDocument::View(&view))?;
-        assert!(rt; of_view.as_str() == want, "{letters}, a view: {of_view}");
-        let source = Source::read(alloc, text, ParseOption::default())?;
-        let of_source = flat(alloc, lookup, AnyDocument::Source(&source))?;
-        assert!(rt;
-            of_source.as_str() == want,
-            "{letters}, pieces: {of_source}"
-        );
+    for row in FLAT {
+        expect_flat(&rt, row)?;
     }
     Ok(())
 }

@@ -185,24 +185,37 @@ fn a_list_that_is_refused_changes_nothing(rt: HostRuntime) -> Result<(), Fail> {
     Ok(())
 }
 
+/// The lists of the text's document.
+fn lists_of(alloc: Global, lookup: Lookup, text: &str) -> Result<Ini, Error> {
+    let document = Ini::load_from_str(alloc, text)?;
+    SettingValue::List.flat(alloc, lookup, AnyDocument::Ini(&document))
+}
+
+/// The text once these changes of lists are made in it.
+fn changed(
+    alloc: Global,
+    lookup: Lookup,
+    changes: &[Change<'_>],
+    text: &str,
+) -> Result<String, EditError> {
+    let (which, write) = (SettingValue::List, WriteOption::default());
+    let source = Source::read(alloc, text, ParseOption::default())?;
+    match apply_by(alloc, which, lookup, &write, changes, &source) {
+        Ok(new) => Ok(new.to_text(alloc)?),
+        Err(refused) => Err(refused.refusal),
+    }
+}
+
 /// The changes of lists from the first of the texts to the second, made in a third one.
 fn applied(
     alloc: Global,
     lookup: Lookup,
     (from, to, text): (&str, &str, &str),
 ) -> Result<String, EditError> {
-    let which = SettingValue::List;
-    let from = Ini::load_from_str(alloc, from)?;
-    let to = Ini::load_from_str(alloc, to)?;
-    let from = which.flat(alloc, lookup, AnyDocument::Ini(&from))?;
-    let to = which.flat(alloc, lookup, AnyDocument::Ini(&to))?;
+    let from = lists_of(alloc, lookup, from)?;
+    let to = lists_of(alloc, lookup, to)?;
     let changes = diff(alloc, &from, &to)?;
-    let source = Source::read(alloc, text, ParseOption::default())?;
-    let write = WriteOption::default();
-    match apply_by(alloc, which, lookup, &write, changes.as_slice(), &source) {
-        Ok(new) => Ok(new.to_text(alloc)?),
-        Err(refused) => Err(refused.refusal),
-    }
+    changed(alloc, lookup, changes.as_slice(), text)
 }
 
 /// A rule, two texts, a third one, and that after the changes from the first to the second.

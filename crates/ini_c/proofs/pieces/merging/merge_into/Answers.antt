@@ -1,6 +1,6 @@
 use Rattle.std.proofs.Common.{◌≡◌, [], refl, rules}
 use Rattle.ini_edit.specs.Sources.{document_in}
-use Rattle.ini_layers.specs.Settings.{AlikeUnder}
+use Rattle.ini_layers.specs.Settings.{AlikeBy}
 use Rattle.ini_c.proofs.ChangeLemmas.{changes-made, changes-refused}
 use Rattle.ini_c.proofs.pieces.merging.merge_into.Goals as goal
 
@@ -34,12 +34,14 @@ returns-in-Ok-clause-made c = λ _.
       merged = search rules;
       made = search rules;
       ours_is_base =
-          changes-made (λ _ old new. AlikeUnder c.args.rule c.args.base.now c.args.ours.now → new ≡ old)
+          changes-made (λ _ old new. AlikeBy c.args.rule.which c.args.rule.lookup c.args.base.now
+          c.args.ours.now → new ≡ old)
           {p = c.args.theirs.now} {changes = []} {given = []} refl
           c.replace_with.ensures.is c.in-Ok.ensures.ours_is_base;
       theirs_is_base = search rules;
       both_alike =
-          changes-made (λ _ old new. AlikeUnder c.args.rule c.args.ours.now (document_in old) → new ≡ old)
+          changes-made (λ _ old new. AlikeBy c.args.rule.which c.args.rule.lookup c.args.ours.now
+          (document_in old) → new ≡ old)
           {p = c.args.theirs.now} {changes = []} {given = []} refl
           c.replace_with.ensures.is c.in-Ok.ensures.both_alike;
     }

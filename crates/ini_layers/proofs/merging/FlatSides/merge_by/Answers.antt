@@ -1,4 +1,4 @@
-use Rattle.std.proofs.Common.{◌≡◌, arith, ap, map, subst, sym}
+use Rattle.std.proofs.Common.{◌≡◌, arith, map, subst}
 use Rattle.ini_edit.specs.Sources.{document_in}
 use Rattle.ini_layers.specs.Differences.{setting_change}
 use Rattle.ini_layers.specs.Merging.{taken_changes}

@@ -1,6 +1,6 @@
 use Rattle.std.proofs.Common.{◌≡◌, ◌++◌, drop, map}
 use Rattle.ini_edit.specs.Sources.{given_pair}
-use Rattle.ini_c.proofs.pieces.documents.push_section.Given as goal
+use Rattle.ini_layers.proofs.documents.push_section.Given as goal
 
 -- with what is left it is the whole
 abbrev pub invariant-loop-pair : goal.invariant-loop-pair

@@ -1,6 +1,6 @@
 use Rattle.std.proofs.Common.{◌≡◌, ◌++◌, drop, map}
 use Rattle.ini_edit.specs.Sources.{document_in, given_section}
-use Rattle.ini_c.proofs.pieces.documents.to_document.Given as goal
+use Rattle.ini_layers.proofs.documents.to_document.Given as goal
 
 -- with what is left it is the whole
 abbrev pub invariant-loop-section : goal.invariant-loop-section
